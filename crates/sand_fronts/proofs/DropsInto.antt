@@ -1,13 +1,14 @@
 -- A drop that is written into lists by site.
-use Rattle.std.proofs.Common.{ℕ, List, length, get_or, ltb, ◌≡◌, ◌+◌, ◌%◌, ◌^◌, ◌<◌, ◌≤◌, sym, ◌∙◌, ap, arith, ⊎_elim, eqb}
+use Rattle.std.proofs.Common.{ℕ, List, length, get_or, ltb, refl, ◌≡◌, ◌+◌, ◌%◌, ◌^◌, ◌<◌, ◌≤◌, sym, ◌∙◌, ap, arith, ⊎_elim, eqb}
 use Rattle.std.proofs.Math.ListN.{set}
 use Rattle.std.proofs.lemmas.Bool.{cases_eq, cases_lt, lt-ltb}
-use Rattle.std.proofs.lemmas.List.{get_or-set_same, get_or-set_other}
+use Rattle.std.proofs.lemmas.List.{get_or-set_same, get_or-set_other, length-set, ext_get_or}
 use Rattle.sand_model.specs.Grid.{Grid, IsGrid, sites}
 use Rattle.sand_model.specs.Sand.{IsSettled, one_at, grains}
 use Rattle.sand_model.specs.Lists.{one_if}
 use Rattle.sand_model.proofs.Bounds.{at_most_sum_below, topplings_bound, sites_limit}
 use Rattle.sand_model.proofs.Flow.{flow_same}
+use Rattle.sand_model.proofs.Heights.{counted as add_at}
 use Rattle.sand_model.proofs.Sandpile.{settled_same}
 use Rattle.sand_model.proofs.SumsBelow.{one_at_same, one_at_other}
 use Rattle.sand_tiles.specs.Places.{bit}
@@ -20,9 +21,77 @@ use Rattle.sand_fronts.specs.Marking.{AreToppled}
 use Rattle.sand_fronts.specs.Boards.{tiles_of, counts_of, marks_of, grown, CountsSites, HasSettled}
 use Rattle.sand_fronts.specs.WrittenBack.{risen, Follows, IsWrittenBack}
 use Rattle.sand_fronts.proofs.OnTiles.{on_below, on_each, height_low}
-use Rattle.sand_fronts.proofs.NewPiles.{few_at_sites}
+use Rattle.sand_fronts.specs.TiledPiles.{TiledView, tiled_view, by_site}
+use Rattle.sand_fronts.proofs.NewPiles.{few_at_sites, by_site_at, by_site_long}
+use Rattle.sand_fronts.proofs.OneGrain.{calm_settled}
 use Rattle.sand_model.proofs.Lists.{at_most_one}
 use Rattle.sand_fronts.proofs.Sums.{sum_below_most}
+
+-- ---- a list of the heights on the tiles
+
+pub record ListsHeights (g : Grid) (s : Sand) (c : Counts) (v : TiledView) (h : List ℕ) : Type 0 where
+  pub view : tiled_view g s c ≡ v
+  pub same : h ≡ v.heights
+
+pub heights_long : {g : Grid} {s : Sand} {c : Counts} {v : TiledView} {h : List ℕ} → ListsHeights g s c v h
+    → length h ≡ sites g
+heights_long {g} {s} lists = ap length (lists.same ∙ ap (λ (w : TiledView). w.heights) (sym lists.view))
+    ∙ by_site_long g (heights_on g (tiles_of s))
+
+pub height_listed : {g : Grid} {s : Sand} {c : Counts} {v : TiledView} {h : List ℕ} → ListsHeights g s c v h → (j : ℕ)
+    → j < sites g → get_or h j 0 ≡ heights_on g (tiles_of s) j
+height_listed {g} {s} lists j l =
+    ap (λ xs. get_or xs j 0) (lists.same ∙ ap (λ (w : TiledView). w.heights) (sym lists.view))
+    ∙ by_site_at g (heights_on g (tiles_of s)) j l
+
+pub site_listed : {g : Grid} {s : Sand} {c : Counts} {v : TiledView} {h : List ℕ} (site : ℕ) → ListsHeights g s c v h
+    → site < sites v.grid → (site < sites g) × (site < length h)
+site_listed site lists inside =
+    let each = heights_long lists in
+    let grid = ap (λ (w : TiledView). sites w.grid) lists.view in (omega arith, omega arith)
+
+-- ---- a grain that topples nothing
+
+-- h lists the heights on the tiles s, and t has a grain more at the site
+pub record AddsGrain (g : Grid) (site : ℕ) (s t : Sand) (c : Counts) (v : TiledView) (h : List ℕ) : Type 0 where
+  pub lists : ListsHeights g s c v h
+  pub inside : site < sites v.grid
+  pub grain : (j : ℕ) → j < sites g → heights_on g (tiles_of t) j ≡ heights_on g (tiles_of s) j + one_at site j
+
+grain_listed : {g : Grid} {site : ℕ} {s t : Sand} {c : Counts} {v : TiledView} {h : List ℕ} → AddsGrain g site s t c v h
+    → (j : ℕ) → get_or (set h site (get_or h site 0 + 1)) j 0 ≡ get_or h j 0 + one_at site j
+grain_listed {g} {site} {h = h} adds j =
+    let more = add_at site 1 h (set h site (get_or h site 0 + 1)) (site_listed site adds.lists adds.inside).1 refl j in
+    omega arith
+
+pub calm_list : {g : Grid} {site : ℕ} {s t : Sand} {c : Counts} {v : TiledView} {h : List ℕ} → AddsGrain g site s t c v h
+    → set h site (get_or h site 0 + 1) ≡ by_site g (heights_on g (tiles_of t))
+calm_list {g} {site} {t = t} {h = h} adds =
+    let left = heights_on g (tiles_of t) in
+    let each = length-set h site (get_or h site 0 + 1) ∙ heights_long adds.lists in
+    ext_get_or 0 (set h site (get_or h site 0 + 1)) (by_site g left) (each ∙ sym (by_site_long g left))
+    (λ j l.
+    let inside : j < sites g = omega arith in
+    let was = height_listed adds.lists j inside in
+    let is = adds.grain j inside in
+    let now = grain_listed adds j in
+    let at = by_site_at g left j inside in
+    omega arith)
+
+pub calm_in_lists : {g : Grid} {site : ℕ} {s t : Sand} {c : Counts} {v : TiledView} {h : List ℕ} (u : List ℕ)
+    → AddsGrain g site s t c v h
+    → IsSettled g (λ j. get_or h j 0 + one_at site j) (risen u u) (λ j. get_or (set h site (get_or h site 0 + 1)) j 0)
+calm_in_lists {g} {site} {t = t} {h = h} u adds =
+    calm_settled g (λ j. get_or h j 0 + one_at site j) (risen u u) (λ j. get_or (set h site (get_or h site 0 + 1)) j 0)
+    (λ j l. grain_listed adds j) (λ j l. omega arith)
+    (λ j l.
+    let was = height_listed adds.lists j l in
+    let is = adds.grain j l in
+    let now = grain_listed adds j in
+    let low = height_low (tiles_of t (tile_of g j)) (place_of g j) in
+    omega arith)
+
+-- ---- a grain that topples its site
 
 -- nothing is counted on c, and a grain at a site leads to the counts d
 pub record CountsDrop (g : Grid) (site : ℕ) (s t : Sand) (c d : Counts) : Type 0 where

@@ -1,9 +1,9 @@
 -- Tiles filled with a number for each site.
-use Rattle.std.proofs.Common.{ℕ, zero, suc, Bool, true, false, cond, List, ◌∷◌, [], ◌++◌, length, get_or, Some, None, ◌≡◌, ◌+◌, ◌-◌, ◌*◌, ◌%◌, ◌^◌, ◌<◌, ◌≤◌, refl, sym, ◌∙◌, ap, subst, arith, ⊎_elim}
+use Rattle.std.proofs.Common.{ℕ, zero, suc, Bool, true, false, cond, List, ◌∷◌, [], ◌++◌, length, get_or, Some, None, ◌≡◌, ◌+◌, ◌-◌, ◌*◌, ◌/◌, ◌%◌, ◌^◌, ◌<◌, ◌≤◌, refl, sym, ◌∙◌, ap, subst, arith, ⊎_elim}
 use Rattle.std.specs.Prelude.{bit_or}
-use Rattle.std.proofs.lemmas.Bool.{cases_lt, ltb-true, and_parts}
+use Rattle.std.proofs.lemmas.Bool.{cases_lt, le-leb, lt-ltb, ltb-true, and_parts, and_from}
 use Rattle.std.proofs.lemmas.List.{get_or_append_left, get_or_push}
-use Rattle.std.proofs.lemmas.Nat.Bits.{bit_at_lowest, bit_at_above}
+use Rattle.std.proofs.lemmas.Nat.Bits.{bit_at_lowest, bit_at_above, bit_at_ones}
 use Rattle.std.proofs.lemmas.Option.{same_Some, none-some}
 use Rattle.std.proofs.Math.ListN.{get_or-eq_default}
 use Rattle.sand_model.specs.Grid.{Grid}
@@ -12,8 +12,8 @@ use Rattle.sand_tiles.specs.Places.{bit, number, had}
 use Rattle.sand_tiles.proofs.Bits.{apart, bit_le, bit_none}
 use Rattle.sand_tiles.proofs.Moves.{bit_shl, bit_shl_low}
 use Rattle.sand_fronts.specs.declared.reach.Spot.{Spot}
-use Rattle.sand_fronts.specs.Tiling.{tiles, row_at, column_at, is_site, site_on, on_tiles}
-use Rattle.sand_fronts.specs.Filling.{Tells, IsFilled}
+use Rattle.sand_fronts.specs.Tiling.{pitch, tiles, row_at, column_at, is_site, site_on, on_tiles}
+use Rattle.sand_fronts.specs.Filling.{Tells, IsFilled, IsInner}
 use Rattle.sand_fronts.proofs.OnTiles.{on_site, off_site, on_below, on_place}
 use Rattle.sand_fronts.proofs.Boards.{tile_inside}
 
@@ -136,3 +136,17 @@ low_of g k t is p low =
     let few = on_below g (λ j. 1) k p 1 low (λ j l. omega arith) in
     let one = bit_le t.low p in
     omega arith
+
+-- ---- tiles inside the grid
+
+pub full_word : (p : ℕ) → p < 64 → bit (2 ^ 64 - 1) p ≡ 1
+unfolding bit
+full_word p low = bit_at_ones 64 p low
+
+pub inner_site : (g : Grid) (k p : ℕ) → IsInner g k → p < 64 → is_site g k p ≡ true
+unfolding is_site
+inner_site g k p inner low =
+    let above = inner.above in let before = inner.before in let below = inner.below in let after = inner.after in
+    and_from _ _
+    (and_from _ _ (le-leb 2 (k / pitch g) (omega arith)) (le-leb 1 (k % pitch g) (omega arith)))
+    (and_from _ _ (lt-ltb (row_at g k p) g.height (omega arith)) (lt-ltb (column_at g k p) g.width (omega arith)))

@@ -15,13 +15,14 @@ use Rattle.sand_tiles.specs.Counts.{counted, IsCount, no_tile}
 use Rattle.sand_tiles.proofs.Bits.{bit_none}
 use Rattle.sand_fronts.specs.declared.sand.Sand.{Sand}
 use Rattle.sand_fronts.specs.declared.counts.Counts.{Counts}
-use Rattle.sand_fronts.specs.Tiling.{tile_of, place_of, on_tiles}
+use Rattle.sand_fronts.specs.Tiling.{tile_of, place_of, row_at, column_at, site_on, on_tiles}
+use Rattle.sand_fronts.specs.Filling.{IsInner}
 use Rattle.sand_fronts.specs.Counting.{count_at}
 use Rattle.sand_fronts.specs.Drops.{heights_on, counted_on, grown_on, AreQuiet}
 use Rattle.sand_fronts.specs.Boards.{tiles_of, counts_of}
 use Rattle.sand_fronts.specs.TiledPiles.{tiled_view, by_site, IsTiledView}
-use Rattle.sand_fronts.proofs.Filled.{entry_each}
-use Rattle.sand_fronts.proofs.OnTiles.{place_below, at_on, on_below, on_sum}
+use Rattle.sand_fronts.proofs.Filled.{entry_each, inner_site}
+use Rattle.sand_fronts.proofs.OnTiles.{place_below, at_on, on_site, on_below, on_sum}
 
 nothing_sound : IsCount no_tile
 nothing_sound = record { bound = omega arith; each = λ p low. let z = bit_none p in omega arith }
@@ -85,6 +86,13 @@ pub none_missing : (g : Grid) (y x : ℕ) → 0 < y → y + 1 < g.height → 0 <
     → 0 ≡ missing g (y * g.width + x)
 none_missing g y x above below before after = sym (missing_is g (y * g.width + x)
     ∙ ap (count_by is_none) (inner_places g y x above below before after))
+
+pub inner_missing : (g : Grid) (k p : ℕ) → IsInner g k → p < 64 → on_tiles g (missing g) k p ≡ 0
+unfolding site_on
+inner_missing g k p inner low =
+    let above = inner.above in let before = inner.before in let below = inner.below in let after = inner.after in
+    on_site g (missing g) k p (inner_site g k p inner low)
+    ∙ sym (none_missing g (row_at g k p) (column_at g k p) (omega arith) (omega arith) (omega arith) (omega arith))
 
 pub few_missing : (g : Grid) (j n : ℕ) → n ≡ missing g j → n ≤ 7
 unfolding missing

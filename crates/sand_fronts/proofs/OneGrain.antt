@@ -11,12 +11,11 @@ use Rattle.sand_model.proofs.Sandpile.{settled_same}
 use Rattle.sand_model.proofs.Underway.{underway_start, underway_end}
 use Rattle.sand_model.proofs.Lists.{at_most_one}
 use Rattle.sand_tiles.specs.declared.tile.Tile.{Tile}
-use Rattle.sand_tiles.specs.declared.counting.Count.{Count}
 use Rattle.sand_tiles.specs.Places.{bit, height, Receives}
 use Rattle.sand_tiles.proofs.Bits.{bit_le, half, both_le}
 use Rattle.sand_fronts.specs.Tiling.{tile_of, place_of, on_tiles}
 use Rattle.sand_fronts.specs.Waves.{tile_at, AreOpen, AreAllOpen, AreAtRest, heights_before}
-use Rattle.sand_fronts.specs.Drops.{heights_on, grown_on, AreQuiet}
+use Rattle.sand_fronts.specs.Drops.{heights_on, AreQuiet}
 use Rattle.sand_fronts.proofs.OnTiles.{place_below, same_site, height_low}
 use Rattle.sand_fronts.proofs.OneSite.{put_site}
 use Rattle.sand_fronts.proofs.Waves.{only_same, only_other}
@@ -56,7 +55,31 @@ grain_heights {g} {site} {ts} {here} {grain} {free} {t} j gets l =
     omega arith)
     (cases_eq (tile_of g j) here)
 
+-- if the site has fewer than 3, the grain is added, and no other height changes
+pub grain_added : {g : Grid} {site : ℕ} {ts : List Tile} {here grain free : ℕ} {t : Tile} (j : ℕ)
+    → GetsGrain g site ts here grain free t → heights_on g (tile_at ts) site < 3 → j < sites g
+    → heights_on g (tile_at (set ts here t)) j ≡ heights_on g (tile_at ts) j + one_at site j
+grain_added {g} {site} {ts} j gets few l =
+    let h = grain_heights j gets l in
+    let a = height_low (tile_at ts (tile_of g j)) (place_of g j) in
+    ⊎_elim
+    (λ (e : j ≡ site).
+    let o = ap (one_at site) e ∙ one_at_same site in
+    let x = ap (heights_on g (tile_at ts)) e in
+    omega arith)
+    (λ (ne : j ≡ site → ⊥). let o = one_at_other site j (λ e. ne (sym e)) in omega arith)
+    (cases_eq j site)
+
 -- ---- if the site has no 4, the pile is settled
+
+pub few_before : {g : Grid} {site : ℕ} {ts : List Tile} {here grain free : ℕ} {t : Tile}
+    → GetsGrain g site ts here grain free t → heights_on g (tile_at (set ts here t)) site ≢ 0
+    → heights_on g (tile_at ts) site < 3
+few_before {g} {site} {ts} gets some =
+    let h = grain_heights site gets gets.site_inside in
+    let a = height_low (tile_at ts (tile_of g site)) (place_of g site) in
+    let o = one_at_same site in
+    omega arith
 
 -- a place that is free gets no grain, and a place that is not free is never due
 pub calm_quiet : {g : Grid} {site : ℕ} {ts : List Tile} {here grain free : ℕ} {t : Tile}
@@ -81,31 +104,13 @@ calm_quiet {g} {site} {ts} {here} {grain} {free} {t} gets = record {
       (λ m ne. gets.quiet.none_due m);
 }
 
-pub calm_settled : {g : Grid} {site : ℕ} {ts : List Tile} {here grain free : ℕ} {t : Tile} (c : ℕ → Count)
-    → GetsGrain g site ts here grain free t → heights_on g (tile_at (set ts here t)) site ≢ 0
-    → IsSettled g (λ j. heights_on g (tile_at ts) j + one_at site j)
-    (grown_on g c c) (heights_on g (tile_at (set ts here t)))
-calm_settled {g} {site} {ts} {here} {grain} {free} {t} c gets calm =
-    let s : ℕ → ℕ = λ j. heights_on g (tile_at ts) j + one_at site j in
-    let same : (j : ℕ) → j < sites g → s j ≡ heights_on g (tile_at (set ts here t)) j =
-    λ j l.
-    let h = grain_heights j gets l in
-    let a = height_low (tile_at ts (tile_of g j)) (place_of g j) in
-    ⊎_elim
-    (λ (e : j ≡ site).
-    let o = ap (one_at site) e ∙ one_at_same site in
-    let x = ap (heights_on g (tile_at (set ts here t))) e in
-    let n : heights_on g (tile_at (set ts here t)) j ≢ 0 = λ z. calm (sym x ∙ z) in
-    omega arith)
-    (λ (ne : j ≡ site → ⊥). let o = one_at_other site j (λ e. ne (sym e)) in omega arith)
-    (cases_eq j site) in
-    settled_same g s s (grown_on g c c) (grown_on g c c) s
-    (heights_on g (tile_at (set ts here t))) (λ i l. refl) (λ i l. refl) same
-    (underway_end g s (grown_on g c c) s (underway_start g s (grown_on g c c) (λ i l. omega arith))
-    (λ j l.
-    let e = same j l in
-    let a = height_low (tile_at (set ts here t) (tile_of g j)) (place_of g j) in
-    omega arith))
+-- nothing topples on a stable pile
+pub calm_settled : (g : Grid) (s u t : ℕ → ℕ) → ((j : ℕ) → j < sites g → t j ≡ s j)
+    → ((j : ℕ) → j < sites g → u j ≡ 0) → ((j : ℕ) → j < sites g → t j ≤ 3) → IsSettled g s u t
+calm_settled g s u t same none low =
+    settled_same g s s u u s t (λ j l. refl) (λ j l. refl) (λ j l. sym (same j l))
+    (underway_end g s u s (underway_start g s u none)
+    (λ j l. let e = same j l in let a = low j l in omega arith))
 
 -- ---- if the site is 0 in the planes, it has 4
 

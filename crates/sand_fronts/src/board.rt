@@ -1,18 +1,19 @@
 //! The tiles of a grid without their sand: which of their places are free, and which tiles are next to each other.
 
-ghost use Rattle.std.specs.Prelude.{◌≡◌, ◌+◌, ◌*◌, ◌<◌, length, IfOk};
+ghost use Rattle.std.specs.Prelude.{◌≡◌, ℕ, ◌+◌, ◌*◌, ◌^◌, ◌<◌, length, IfOk};
 ghost use Rattle.sand_model.specs.Grid.{missing};
-ghost use Rattle.sand_fronts.specs.Tiling.{tiles};
+ghost use Rattle.sand_tiles.specs.Places.{number};
+ghost use Rattle.sand_fronts.specs.Tiling.{tiles, on_tiles};
 ghost use Rattle.sand_fronts.specs.Waves.{tile_at, AreAllOpen};
 ghost use Rattle.sand_fronts.specs.Drops.{AreOutside};
 ghost use Rattle.sand_fronts.specs.Boards.{free_of, IsBoard};
 
-use crate::filling::tiles_of;
+use crate::filling::{is_inner, tile_of};
 use crate::reach::Spot;
 use crate::sides::{Beside, all_sides};
-use crate::tiling::all_open;
+use crate::tiling::{all_open, tiles};
 use sand_model::Shape;
-use sand_tiles::Tile;
+use sand_tiles::{BARE, Tile};
 use std::alloc::{AllocError, Global};
 
 /// The tiles of a grid.
@@ -48,12 +49,28 @@ fn missing_at(shape: Shape, spot: Spot) -> u64
     u64::from(shape.missing(row * width + column))
 }
 
-// The same for all sites, on tiles.
+// The same for the places of a tile.
+#[inline(always)]
+fn outside_in(shape: Shape, k: usize) -> Tile
+    requires { k < 2 ^ 20 }
+    ensures { (p : ℕ) → p < 64 → number result p ≡ on_tiles shape (missing shape) k p }
+{
+    if is_inner(shape, k) {
+        return BARE;
+    }
+    tile_of(shape, k, &|spot: Spot| missing_at(shape, spot))
+}
+
+// The same for all tiles.
 fn all_outside(alloc: Global, shape: Shape) -> Result<Vec<Tile>, AllocError>
     ensures len { IfOk result (λ all. length all.items ≡ tiles shape) }
     ensures each { IfOk result (λ all. AreOutside shape (tile_at all.items)) }
 {
-    let all = tiles_of(alloc, shape, &|spot: Spot| missing_at(shape, spot))?;
+    let n = tiles(shape);
+    let mut all = Vec::with_capacity(alloc, n)?;
+    for k in 0..n {
+        all.push_reserved(outside_in(shape, k));
+    }
     Ok(all)
 }
 

@@ -1,13 +1,14 @@
 //! Tiles filled with a number for each site.
 //!
 //! A tile is filled from its last place to its first: each number is put before those that follow it, by a shift of the
-//! tile's words. So a site's place is found by its tile, and not by a division for each site.
+//! tile's words. So a site's place is found by its tile, and not by a division for each site. Most tiles are inside the
+//! grid with all their places and the places around: of them some numbers are known at once.
 
-ghost use Rattle.std.specs.Prelude.{◌≡◌, ℕ, ◌+◌, ◌^◌, ◌<◌, ◌≤◌, Some, None, if◌then◌else◌, length, IfOk};
+ghost use Rattle.std.specs.Prelude.{◌≡◌, ℕ, ◌+◌, ◌^◌, ◌<◌, ◌≤◌, Some, None, if◌then◌else◌, length, IfOk, IsTrue};
 ghost use Rattle.sand_tiles.specs.Places.{bit, number};
 ghost use Rattle.sand_fronts.specs.Tiling.{tiles, is_site, row_at, column_at, on_tiles};
 ghost use Rattle.sand_fronts.specs.Waves.{tile_at};
-ghost use Rattle.sand_fronts.specs.Filling.{AtSites, Tells, IsFilled};
+ghost use Rattle.sand_fronts.specs.Filling.{AtSites, Tells, IsFilled, IsInner};
 
 use crate::reach::Spot;
 use crate::tiling::{SIDE, pitch, tiles};
@@ -57,6 +58,19 @@ fn site_at(shape: Shape, k: usize, place: usize) -> Option<Spot>
     } else {
         None
     }
+}
+
+/// Whether each place of a tile is a site with four neighbours. It may say so of fewer tiles.
+#[inline(always)]
+pub(crate) fn is_inner(shape: Shape, k: usize) -> bool
+    requires { k < 2 ^ 20 }
+    ensures { IsTrue result → IsInner shape k }
+{
+    let (down, across) = (k / pitch(shape), k % pitch(shape));
+    if down < 3 || across < 2 {
+        return false;
+    }
+    (down - 1) * SIDE < shape.height() && across * SIDE < shape.width()
 }
 
 // The number of a place: that of its site, or 0 if it is no site.

@@ -7,16 +7,16 @@
 //! tile, and put back after them. Then area and reach are read from the marked sites (`extent`).
 
 ghost use Rattle.std.specs.Prelude.{◌≡◌, ℕ, ◌+◌, ◌*◌, ◌^◌, ◌<◌, ◌≤◌, length, slice_index, IfOk};
-ghost use Rattle.sand_model.specs.Grid.{IsGrid, sites};
+ghost use Rattle.sand_model.specs.Grid.{Grid, IsGrid, sites};
 ghost use Rattle.sand_model.specs.Sand.{IsSettled, one_at, topplings, lost};
 ghost use Rattle.sand_tiles.specs.Counts.{counted};
 ghost use Rattle.sand_fronts.specs.Tiling.{tiles};
 ghost use Rattle.sand_fronts.specs.Waves.{AreAllOpen};
 ghost use Rattle.sand_fronts.specs.Marking.{AreToppled, AreSites};
-ghost use Rattle.sand_fronts.specs.Drops.{heights_on};
+ghost use Rattle.sand_fronts.specs.Drops.{heights_on, AreQuiet};
 ghost use Rattle.sand_fronts.specs.WrittenBack.{AreLow, risen};
 ghost use Rattle.sand_fronts.specs.Avalanches.{IsAvalanche};
-ghost use Rattle.sand_fronts.specs.Boards.{tiles_of, free_of, counts_of, marks_of, grown, IsBoard, HasSettled};
+ghost use Rattle.sand_fronts.specs.Boards.{tiles_of, free_of, counts_of, marks_of, grown, IsBoard, IsSand, HasSettled};
 ghost use Rattle.sand_fronts.specs.TiledPiles.{IsTiledPile, IsTiledView, toppled_between};
 
 use crate::avalanche::Avalanche;
@@ -59,6 +59,37 @@ fn topple_grain(board: &mut Board, sand: &mut Sand, counts: &mut Counts, site: u
     let total = topple_all(board, sand, counts, DropSite { site, tile, place });
     board.free[tile] = whole;
     total
+}
+
+// Adds a grain at a site that has fewer than 3, so that nothing topples.
+#[inline(always)]
+fn add_grain(shape: Shape, sand: &mut Sand, site: usize)
+    requires site { site < sites shape }
+    requires sand { IsSand shape sand.old }
+    requires quiet { AreQuiet (tiles_of sand.old) }
+    requires low { heights_on shape (tiles_of sand.old) site < 3 }
+    ensures sand { IsSand shape sand.new }
+    ensures quiet { AreQuiet (tiles_of sand.new) }
+    ensures heights { (j : ℕ) → j < sites shape
+        → heights_on shape (tiles_of sand.new) j ≡ heights_on shape (tiles_of sand.old) j + one_at site j }
+{
+    let (tile, place) = find(shape, site);
+    let grain = set_of(place);
+    receive(&mut sand.tiles[tile], grain, 0);
+}
+
+// The avalanche of a drop that topples nothing.
+#[inline(always)]
+fn calm(site: usize) -> Avalanche
+    ensures { (g : Grid) (v : ℕ → ℕ) → ((j : ℕ) → j < sites g → v j ≡ 0) → IsAvalanche g site v result }
+{
+    Avalanche {
+        site,
+        size: 0,
+        area: 0,
+        reach: 0,
+        lost: 0,
+    }
 }
 
 // The avalanche of a drop, from its total and the sites that it marked. Clears the marks.
@@ -159,6 +190,11 @@ impl TiledPile {
         ensures avalanche { IsAvalanche self.old.grid site (risen odometer.old odometer.new) result }
     {
         let shape = self.board.shape;
+        if heights[site] < 3 {
+            heights[site] += 1;
+            add_grain(shape, &mut self.sand, site);
+            return calm(site);
+        }
         let total = topple_grain(&mut self.board, &mut self.sand, &mut self.counts, site);
         heights[site] = (heights[site] + 1) % 4;
         write_back(shape, &mut self.counts, heights, odometer);

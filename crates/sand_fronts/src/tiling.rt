@@ -11,7 +11,7 @@ ghost use Rattle.sand_fronts.specs.Tiling.{across, pitch, tiles, tile_of, place_
 ghost use Rattle.sand_fronts.specs.TileLists.{IsClear};
 ghost use Rattle.sand_fronts.specs.Waves.{tile_at, AreAllOpen};
 
-use crate::filling::{tile_of, tiles_of};
+use crate::filling::{is_inner, tile_of, tiles_of};
 use crate::reach::Spot;
 use sand_model::Shape;
 use sand_tiles::Tile;
@@ -74,16 +74,27 @@ pub(crate) fn find(shape: Shape, site: usize) -> (usize, usize)
     find_at(shape, column, row)
 }
 
+// The word of the places of a tile that are sites.
+#[inline(always)]
+fn open_in(shape: Shape, k: usize) -> u64
+    requires { k < 2 ^ 20 }
+    ensures { (p : ℕ) → p < 64 → bit result p ≡ on_tiles shape (λ j. 1) k p }
+{
+    if is_inner(shape, k) {
+        return u64::MAX;
+    }
+    tile_of(shape, k, &|_: Spot| 1u64).low
+}
+
 /// For each tile, the word of its places that are sites. Fails only if an allocation fails.
 pub(crate) fn all_open(alloc: Global, shape: Shape) -> Result<Vec<u64>, AllocError>
     ensures len { IfOk result (λ free. length free.items ≡ tiles shape) }
     ensures all { IfOk result (λ free. AreAllOpen shape (slice_index free.items)) }
 {
-    let one = |_: Spot| 1u64;
     let n = tiles(shape);
     let mut free = Vec::with_capacity(alloc, n)?;
     for k in 0..n {
-        free.push_reserved(tile_of(shape, k, &one).low);
+        free.push_reserved(open_in(shape, k));
     }
     Ok(free)
 }

@@ -9,16 +9,16 @@ use Rattle.sand_model.proofs.Sandpile.{settled_same}
 use Rattle.sand_tiles.specs.declared.tile.Tile.{Tile}
 use Rattle.sand_tiles.specs.Places.{bit, height}
 use Rattle.sand_tiles.proofs.Bits.{bit_none}
-use Rattle.sand_fronts.specs.Tiling.{tile_of}
+use Rattle.sand_fronts.specs.Tiling.{tile_of, place_of}
 use Rattle.sand_fronts.specs.Waves.{tile_at, heights_before}
 use Rattle.sand_fronts.specs.Drops.{heights_on}
 use Rattle.sand_fronts.specs.Boards.{tiles_of, counts_of, marks_of, grown}
-use Rattle.sand_fronts.proofs.OnTiles.{on_below}
+use Rattle.sand_fronts.proofs.OnTiles.{on_below, height_low}
 use Rattle.sand_fronts.proofs.Boards.{board_with, sand_with}
 use Rattle.sand_fronts.proofs.Gained.{tile_read}
 use Rattle.sand_fronts.proofs.ManyWaves.{none_grown, none_lost, none_counted}
 use Rattle.sand_fronts.proofs.Marked.{marked_word}
-use Rattle.sand_fronts.proofs.OneGrain.{IsWordOf, without, GetsGrain, calm_quiet, calm_settled, due_rest, due_heights, taken_out, put_back}
+use Rattle.sand_fronts.proofs.OneGrain.{IsWordOf, without, GetsGrain, few_before, grain_added, calm_quiet, calm_settled, due_rest, due_heights, taken_out, put_back}
 use Rattle.sand_fronts.proofs.tiled_pile.topple_grain.Goals.{After-receive, After-height_at, After-index-whole}
 use Rattle.sand_fronts.proofs.tiled_pile.topple_grain.Goals as goal
 
@@ -75,12 +75,16 @@ returns-then-height_at-ne0-clause-settled c =
     let d = goal.at.returns-then-height_at-ne0-clause-settled c in
     let g = c.args.board.now.shape in
     let counts = counts_of c.args.counts.now in
+    let left = set c.args.sand.now.tiles.items c.find-tile.result.0 c.receive.new.tile in
+    let few = few_before (gets d.After-receive) (λ z. c.if-height_at-ne0.true (height_is d.After-height_at ∙ z)) in
     record {
       sand = sand_with g c.args.sand.now c.find-tile.result.0 c.receive.new.tile c.requires.pile.sand;
       counts = c.requires.pile.counts;
       quiet = calm_quiet (gets d.After-receive);
-      settled = calm_settled counts (gets d.After-receive)
-          (λ z. c.if-height_at-ne0.true (height_is d.After-height_at ∙ z));
+      settled = calm_settled g (λ j. heights_on g (tiles_of c.args.sand.now) j + one_at c.args.site j)
+          (grown g c.args.counts.now c.args.counts.now) (heights_on g (tile_at left))
+          (λ j l. grain_added j (gets d.After-receive) few l) (λ j l. omega arith)
+          (λ j l. height_low (tile_at left (tile_of g j)) (place_of g j));
       counted = none_counted g counts;
     }
 

@@ -2,7 +2,7 @@ use Rattle.std.proofs.Common.{ℕ, rules, ◌≡◌, ◌∙◌, ◌<◌, arith}
 use Rattle.sand_tiles.specs.Places.{bit}
 use Rattle.sand_tiles.proofs.Bits.{bit_none}
 use Rattle.sand_fronts.specs.Tiling.{on_tiles}
-use Rattle.sand_fronts.proofs.Filled.{entry_more, entry_each, no_tile_on, low_of}
+use Rattle.sand_fronts.proofs.Filled.{entry_more, entry_each, no_tile_on}
 use Rattle.sand_fronts.proofs.tiling.all_open.Goals as goal
 
 pub loop-k-preserved : goal.loop-k-preserved
@@ -10,9 +10,7 @@ loop-k-preserved c = record {
   made = search rules;
   room = search rules;
   each = entry_more 0 (λ k w. (p : ℕ) → p < 64 → bit w p ≡ on_tiles c.args.shape (λ j. 1) k p)
-      c.loop-k.free.items _ c.tile_of.result.low c.loop-k.k c.push_reserved.ensures.items (search rules)
-      (low_of c.args.shape c.loop-k.k c.tile_of.result
-      (c.tile_of.ensures.each (λ j. 1) (λ s n below left says. search rules)))
+      c.loop-k.free.items _ c.open_in.result c.loop-k.k c.push_reserved.ensures.items (search rules) c.open_in.ensures
       c.loop-k.invariant.each;
 }
 

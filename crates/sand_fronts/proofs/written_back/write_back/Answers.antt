@@ -15,7 +15,7 @@ use Rattle.sand_fronts.proofs.OnTiles.{place_below}
 use Rattle.sand_fronts.proofs.Counted.{count_read, count_set_same, count_set_other, AreNone, none_in, rest_in}
 use Rattle.sand_fronts.proofs.MarkedTiles.{empty_or_listed}
 use Rattle.sand_fronts.proofs.WrittenBack.{follows_none, follows_more}
-use Rattle.sand_fronts.proofs.written_back.write_back.Goals.{After-index}
+use Rattle.sand_fronts.proofs.written_back.write_back.Goals.{After-index_mut}
 use Rattle.sand_fronts.proofs.written_back.write_back.Goals as goal
 use Rattle.sand_fronts.proofs.Gained.{set_each}
 
@@ -35,7 +35,7 @@ loop-position-init c = record {
   follows = follows_none c.args.shape c.args.heights.now c.args.odometer.now c.requires.low;
 }
 
-inside : (c : After-index) → c.tile-k.result < length c.loop-position.counts.each.items
+inside : (c : After-index_mut) → c.tile-k.result < length c.loop-position.counts.each.items
 inside c =
     let each = ap (λ (x : MarksView). length x.sets) c.loop-position.invariant.marks in
     omega (
@@ -46,12 +46,12 @@ inside c =
       c.tile-k.ensures.within,
     )
 
-read : (c : After-index) → c.index.result.now ≡ counts_of c.loop-position.counts c.tile-k.result
-read c = count_read c.loop-position.counts.each.items c.tile-k.result c.index.result.now (inside c) c.index.ensures
+read : (c : After-index_mut) → c.index_mut.result.now ≡ counts_of c.loop-position.counts c.tile-k.result
+read c = count_read c.loop-position.counts.each.items c.tile-k.result c.index_mut.result.now (inside c) c.index_mut.ensures.value
 
 pub write_tile-requires-clause-bound : goal.write_tile-requires-clause-bound
 write_tile-requires-clause-bound c =
-    let d = (goal.at.write_tile-requires-clause-bound c).After-index in (
+    let d = (goal.at.write_tile-requires-clause-bound c).After-index_mut in (
       λ p low.
           let same = ap (λ (x : Count). counted x p) (read d) in
           let less = c.loop-position.invariant.bound c.tile-k.result p low in
@@ -64,30 +64,30 @@ write_tile-requires-clause-bound c =
 
 pub loop-position-preserved : goal.loop-position-preserved
 loop-position-preserved c =
-    let d = (goal.at.loop-position-preserved c).After-index in
+    let d = (goal.at.loop-position-preserved c).After-index_mut in
     let g = c.args.shape in
     let k = c.tile-k.result in
     let cs = c.loop-position.counts.each.items in
     let within = inside d in
-    let here : (m p : ℕ) → p < 64 → m ≡ k → counted (count_at (set cs k c.no_count.result) m) p ≡ 0 =
-    λ m p low e. ap (λ (x : Count). counted x p) (count_set_same cs k m c.no_count.result within e)
-    ∙ c.no_count.ensures.none p low in
-    let other : (m p : ℕ) → (m ≡ k → ⊥) → counted (count_at (set cs k c.no_count.result) m) p ≡ counted (count_at cs m) p =
-    λ m p ne. ap (λ (x : Count). counted x p) (count_set_other cs k m c.no_count.result ne) in
+    let here : (m p : ℕ) → p < 64 → m ≡ k → counted (count_at (set cs k c.write_tile.new.count) m) p ≡ 0 =
+    λ m p low e. ap (λ (x : Count). counted x p) (count_set_same cs k m c.write_tile.new.count within e)
+    ∙ c.write_tile.ensures.none p low in
+    let other : (m p : ℕ) → (m ≡ k → ⊥) → counted (count_at (set cs k c.write_tile.new.count) m) p ≡ counted (count_at cs m) p =
+    λ m p ne. ap (λ (x : Count). counted x p) (count_set_other cs k m c.write_tile.new.count ne) in
     let turn_is : k ≡ slice_index c.args.counts.now.marks.tiles c.loop-position.position = c.tile-k.ensures.value
     ∙ ap (λ (x : MarksView). slice_index x.tiles c.loop-position.position) c.loop-position.invariant.marks in
     record {
-      each = length-set {A = Count} cs k c.no_count.result ∙ c.loop-position.invariant.each;
+      each = length-set {A = Count} cs k c.write_tile.new.count ∙ c.loop-position.invariant.each;
       marks = c.loop-position.invariant.marks;
-      sound = set_each no_tile (λ m x. IsCount x) cs k c.no_count.result within c.no_count.ensures.sound
+      sound = set_each no_tile (λ m x. IsCount x) cs k c.write_tile.new.count within c.write_tile.ensures.sound
           (λ m ne. c.loop-position.invariant.sound m);
       bound = set_each no_tile (λ m x. (p : ℕ) → p < 64 → counted x p ≤ counted (counts_of c.args.counts.now m) p) cs k
-          c.no_count.result within (λ p low. let z = c.no_count.ensures.none p low in omega arith)
+          c.write_tile.new.count within (λ p low. let z = c.write_tile.ensures.none p low in omega arith)
           (λ m ne. c.loop-position.invariant.bound m);
-      listed = rest_in (λ m. AreNone (count_at cs m)) (λ m. AreNone (count_at (set cs k c.no_count.result) m)) k
+      listed = rest_in (λ m. AreNone (count_at cs m)) (λ m. AreNone (count_at (set cs k c.write_tile.new.count) m)) k
           c.args.counts.now.marks.tiles c.loop-position.position (length c.args.counts.now.marks.tiles) c.loop-position.invariant.listed
-          (set_each no_tile (λ m x. AreNone (count_at cs m) → AreNone x) cs k c.no_count.result within
-          (λ was. c.no_count.ensures.none) (λ m ne was. was))
+          (set_each no_tile (λ m x. AreNone (count_at cs m) → AreNone x) cs k c.write_tile.new.count within
+          (λ was. c.write_tile.ensures.none) (λ m ne was. was))
           (λ p low. here k p low refl) turn_is;
       added = λ j l.
           let p = place_of g j in

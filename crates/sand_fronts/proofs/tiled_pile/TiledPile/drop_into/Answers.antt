@@ -13,8 +13,8 @@ use Rattle.sand_fronts.specs.TiledPiles.{TiledView, by_site}
 use Rattle.sand_fronts.proofs.OnTiles.{place_below}
 use Rattle.sand_fronts.proofs.NewPiles.{by_site_at, by_site_long, by_site_none, counts_no_site}
 use Rattle.sand_fronts.proofs.OnPiles.{avalanche_same, few_now, pile_after, sites_toppled}
-use Rattle.sand_fronts.proofs.DropsInto.{CountsDrop, WritesDrop, few_toppled, only_marked, risen_is, heights_are, settled_in_lists}
-use Rattle.sand_fronts.proofs.tiled_pile.TiledPile.drop_into.Goals.{After-topple_grain-total, After-write_back}
+use Rattle.sand_fronts.proofs.DropsInto.{ListsHeights, heights_long, height_listed, site_listed, AddsGrain, calm_list, calm_in_lists, CountsDrop, WritesDrop, few_toppled, only_marked, risen_is, heights_are, settled_in_lists}
+use Rattle.sand_fronts.proofs.tiled_pile.TiledPile.drop_into.Goals.{After-self, After-add_grain, After-topple_grain-total, After-write_back}
 use Rattle.sand_fronts.proofs.tiled_pile.TiledPile.drop_into.Goals as goal
 
 pub topple_grain-total-requires-clause-site : goal.topple_grain-total-requires-clause-site
@@ -26,6 +26,69 @@ topple_grain-total-requires-clause-bound c =
     few_now c.self.inside.board.shape c.self.inside.sand c.self.inside.counts c.self.invariant.at_sites
     (λ j l. let e = ap (λ (v : TiledView). slice_index v.times j) c.self.view_is in
     let none = c.requires.uncounted j in omega arith)
+
+lists : (c : After-self) → ListsHeights c.self.inside.board.shape c.self.inside.sand c.self.inside.counts c.args.self.now
+    c.args.heights.now
+lists c = record { view = c.self.view_is; same = c.requires.heights }
+
+pub bounds-heights-site : goal.bounds-heights-site
+bounds-heights-site c =
+    (site_listed c.args.site (lists (goal.at.bounds-heights-site c).After-self) c.requires.site).1
+
+-- ---- nothing topples
+
+pub bounds-heights-site-then-heights-site-lt3 : goal.bounds-heights-site-then-heights-site-lt3
+bounds-heights-site-then-heights-site-lt3 c =
+    (site_listed c.args.site (lists (goal.at.bounds-heights-site-then-heights-site-lt3 c).After-self) c.requires.site).1
+
+pub bounds-heights-site-then-heights-site-lt3-2 : goal.bounds-heights-site-then-heights-site-lt3-2
+bounds-heights-site-then-heights-site-lt3-2 c =
+    (site_listed c.args.site (lists (goal.at.bounds-heights-site-then-heights-site-lt3-2 c).After-self) c.requires.site).1
+
+pub add_grain-requires-clause-low : goal.add_grain-requires-clause-low
+add_grain-requires-clause-low c =
+    let all = lists (goal.at.add_grain-requires-clause-low c).After-self in
+    let at = height_listed all c.args.site (site_listed c.args.site all c.requires.site).0 in
+    omega (arith, c.if-heights-site-lt3.true)
+
+adds : (c : After-add_grain) → AddsGrain c.self.inside.board.shape c.args.site c.self.inside.sand c.add_grain.new.sand
+    c.self.inside.counts c.args.self.now c.args.heights.now
+adds c = record {
+  lists = record { view = c.self.view_is; same = c.requires.heights };
+  inside = c.requires.site;
+  grain = c.add_grain.ensures.heights;
+}
+
+pub invariant_of-self : goal.invariant_of-self
+invariant_of-self c =
+    let before = c.self.invariant in
+    record {
+      board = before.board;
+      all_open = before.all_open;
+      sand = c.add_grain.ensures.sand;
+      quiet = c.add_grain.ensures.quiet;
+      counts = before.counts;
+      at_sites = before.at_sites;
+      unmarked = before.unmarked;
+    }
+
+pub returns-then-heights-site-lt3-clause-heights : goal.returns-then-heights-site-lt3-clause-heights
+returns-then-heights-site-lt3-clause-heights c =
+    calm_list (adds (goal.at.returns-then-heights-site-lt3-clause-heights c).After-add_grain)
+
+pub returns-then-heights-site-lt3-clause-settled : goal.returns-then-heights-site-lt3-clause-settled
+returns-then-heights-site-lt3-clause-settled c =
+    let P : Grid → Type 0 = λ g. IsSettled g (λ j. slice_index c.args.heights.now j + one_at c.args.site j)
+    (risen c.args.odometer.now c.args.odometer.now)
+    (slice_index (set c.args.heights.now c.args.site (slice_index c.args.heights.now c.args.site + 1))) in
+    subst P (ap (λ (v : TiledView). v.grid) c.self.view_is)
+    (calm_in_lists c.args.odometer.now (adds (goal.at.returns-then-heights-site-lt3-clause-settled c).After-add_grain))
+
+pub returns-then-heights-site-lt3-clause-avalanche : goal.returns-then-heights-site-lt3-clause-avalanche
+returns-then-heights-site-lt3-clause-avalanche c =
+    c.calm.ensures c.args.self.now.grid (risen c.args.odometer.now c.args.odometer.now) (λ j l. omega arith)
+
+-- ---- the site topples
 
 counts : (c : After-topple_grain-total) → CountsDrop c.self.inside.board.shape c.args.site c.self.inside.sand
     c.topple_grain-total.new.sand c.self.inside.counts c.topple_grain-total.new.counts
@@ -42,24 +105,14 @@ counts c =
       has = c.topple_grain-total.ensures.settled;
     }
 
-long : (c : After-topple_grain-total) → length c.args.heights.now ≡ sites c.self.inside.board.shape
-long c = ap length (c.requires.heights ∙ ap (λ (v : TiledView). v.heights) (sym c.self.view_is))
-    ∙ by_site_long c.self.inside.board.shape (heights_on c.self.inside.board.shape (tiles_of c.self.inside.sand))
-
-pub bounds-heights-site : goal.bounds-heights-site
-bounds-heights-site c =
-    let d = (goal.at.bounds-heights-site c).After-topple_grain-total in
-    let each = long d in let here = (counts d).inside in omega arith
-
 pub bounds-heights-site-2 : goal.bounds-heights-site-2
 bounds-heights-site-2 c =
-    let d = (goal.at.bounds-heights-site-2 c).After-topple_grain-total in
-    let each = long d in let here = (counts d).inside in omega arith
+    (site_listed c.args.site (lists (goal.at.bounds-heights-site-2 c).After-self) c.requires.site).1
 
 pub write_back-requires-clause-len : goal.write_back-requires-clause-len
 write_back-requires-clause-len c =
-    let d = (goal.at.write_back-requires-clause-len c).After-topple_grain-total in (
-      length-set c.args.heights.now _ _ ∙ long d,
+    let d = goal.at.write_back-requires-clause-len c in (
+      length-set c.args.heights.now _ _ ∙ heights_long (lists d.After-self),
       c.requires.odometer_each ∙ ap (λ (v : TiledView). sites v.grid) (sym c.self.view_is),
     )
 
@@ -96,23 +149,23 @@ avalanche_of-requires-clause-at_sites c = rw c.write_back.ensures.written.marks
 -- the drop is in the lists
 writes : (c : After-write_back) → CountsDrop c.self.inside.board.shape c.args.site c.self.inside.sand
     c.topple_grain-total.new.sand c.self.inside.counts c.topple_grain-total.new.counts
-    → length c.args.heights.now ≡ sites c.self.inside.board.shape → WritesDrop c.self.inside.board.shape c.args.site
+    → ListsHeights c.self.inside.board.shape c.self.inside.sand c.self.inside.counts c.args.self.now c.args.heights.now
+    → WritesDrop c.self.inside.board.shape c.args.site
     c.self.inside.sand c.topple_grain-total.new.sand
     c.self.inside.counts c.topple_grain-total.new.counts c.write_back.new.counts c.args.heights.now
     (set c.args.heights.now c.args.site ((slice_index c.args.heights.now c.args.site + 1) % 4))
     c.write_back.new.heights c.args.odometer.now c.write_back.new.odometer
-writes c drop each = record {
+writes c drop all = record {
   drop = drop;
-  heights_each = each;
-  heights = λ j l. ap (λ xs. slice_index xs j) (c.requires.heights ∙ ap (λ (v : TiledView). v.heights) (sym c.self.view_is))
-      ∙ by_site_at c.self.inside.board.shape (heights_on c.self.inside.board.shape (tiles_of c.self.inside.sand)) j l;
+  heights_each = heights_long all;
+  heights = height_listed all;
   grain = refl;
   follows = c.write_back.ensures.follows;
   written = c.write_back.ensures.written;
 }
 
-pub invariant_of-self : goal.invariant_of-self
-invariant_of-self c =
+pub invariant_of-self-2 : goal.invariant_of-self-2
+invariant_of-self-2 c =
     let is = c.topple_grain-total.ensures in
     let each = is.settled.counts in
     let written = c.write_back.ensures.written in
@@ -136,7 +189,7 @@ returns-clause-heights c =
     let d = goal.at.returns-clause-heights c in
     let g = c.self.inside.board.shape in
     let left = heights_on g (tiles_of c.topple_grain-total.new.sand) in
-    let each = c.write_back.ensures.follows.heights_each ∙ length-set c.args.heights.now _ _ ∙ long d.After-topple_grain-total in
+    let each = c.write_back.ensures.follows.heights_each ∙ length-set c.args.heights.now _ _ ∙ heights_long (lists d.After-self) in
     let end = by_site_long g left in
     let P : Grid → Type 0 =
     λ h. c.write_back.new.heights ≡ by_site h (heights_on h (tiles_of c.topple_grain-total.new.sand)) in
@@ -144,7 +197,7 @@ returns-clause-heights c =
     (ext_get_or 0 c.write_back.new.heights (by_site g left) (omega arith)
     (λ j l. heights_are g c.args.site c.self.inside.sand c.topple_grain-total.new.sand c.self.inside.counts
     c.topple_grain-total.new.counts c.write_back.new.counts c.args.heights.now _ c.write_back.new.heights
-    c.args.odometer.now c.write_back.new.odometer (writes d.After-write_back (counts d.After-topple_grain-total) (long d.After-topple_grain-total)) j (omega arith)
+    c.args.odometer.now c.write_back.new.odometer (writes d.After-write_back (counts d.After-topple_grain-total) (lists d.After-self)) j (omega arith)
     ∙ sym (by_site_at g left j (omega arith))))
 
 pub returns-clause-settled : goal.returns-clause-settled
@@ -156,7 +209,7 @@ returns-clause-settled c =
     (settled_in_lists c.self.inside.board.shape c.args.site c.self.inside.sand c.topple_grain-total.new.sand
     c.self.inside.counts c.topple_grain-total.new.counts c.write_back.new.counts c.args.heights.now _
     c.write_back.new.heights c.args.odometer.now c.write_back.new.odometer
-    (writes d.After-write_back (counts d.After-topple_grain-total) (long d.After-topple_grain-total)))
+    (writes d.After-write_back (counts d.After-topple_grain-total) (lists d.After-self)))
 
 pub returns-clause-avalanche : goal.returns-clause-avalanche
 returns-clause-avalanche c =
@@ -170,6 +223,6 @@ returns-clause-avalanche c =
     (avalanche_same g c.args.site v w c.avalanche_of.result
     (risen_is g c.args.site c.self.inside.sand c.topple_grain-total.new.sand c.self.inside.counts
     c.topple_grain-total.new.counts c.write_back.new.counts c.args.heights.now _ c.write_back.new.heights
-    c.args.odometer.now c.write_back.new.odometer (writes d.After-write_back (counts d.After-topple_grain-total) (long d.After-topple_grain-total)))
+    c.args.odometer.now c.write_back.new.odometer (writes d.After-write_back (counts d.After-topple_grain-total) (lists d.After-self)))
     (c.avalanche_of.ensures.avalanche v
     (subst (λ (x : MarksView). AreToppled g v (slice_index x.sets)) (sym c.write_back.ensures.written.marks) is.marked) is.size is.lost))

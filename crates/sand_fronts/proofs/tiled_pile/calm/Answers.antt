@@ -1,0 +1,17 @@
+use Rattle.std.proofs.Common.{ltb, ◌*◌, sym, refl, ap, arith}
+use Rattle.std.proofs.lemmas.Bool.{le-ltb}
+use Rattle.sand_model.specs.Grid.{sites, missing}
+use Rattle.sand_model.specs.Lists.{one_if}
+use Rattle.sand_fronts.proofs.Sums.{sum_below_none}
+use Rattle.sand_fronts.proofs.tiled_pile.calm.Goals as goal
+
+pub returns : goal.returns
+returns c g v none = record {
+  origin = refl;
+  size = sym (sum_below_none (sites g) v none);
+  area = sym (sum_below_none (sites g) (λ j. one_if (ltb 0 (v j)))
+      (λ j l. ap one_if (le-ltb 0 (v j) (let z = none j l in omega arith))));
+  within = λ j l some. let z = none j l in omega arith;
+  reached = λ far. absurd (omega arith);
+  all_lost = sym (sum_below_none (sites g) (λ j. missing g j * v j) (λ j l. let e = ap (λ x. missing g j * x) (none j l) in omega arith));
+}
