@@ -1,6 +1,6 @@
 -- A wave on tiles: from a dropped site that has 4, each site topples at most once; the dropped site is held after its
 -- toppling.
-use Rattle.std.specs.Prelude.{ℕ, List, length, slice_index_or, ◌≡◌, ◌≢◌, ◌+◌, ◌-◌, ◌*◌, ◌%◌, ◌^◌, ◌<◌, ◌≤◌, if◌then◌else◌, ◌==◌}
+use Rattle.std.specs.Prelude.{ℕ, List, length, slice_index_or, slice_set, ◌≡◌, ◌≢◌, ◌+◌, ◌-◌, ◌*◌, ◌%◌, ◌^◌, ◌<◌, ◌≤◌, if◌then◌else◌, ◌==◌}
 use Rattle.sand_model.specs.Grid.{Grid, IsGrid, sites}
 use Rattle.sand_model.specs.Sand.{Stabilises, flow, one_at}
 use Rattle.sand_tiles.specs.declared.tile.Tile.{Tile}
@@ -84,6 +84,14 @@ put k t τ m = if m == k then t else τ m
 pub record Steps (τ σ : ℕ → Tile) (free : ℕ → ℕ) (b : Beside) (k start : ℕ) : Type 0 where
   pub visited : Visited (τ k) (free k) start
   pub gains : Gains free (put k visited.tile τ) σ (over_rim b visited.new)
+
+-- two tiles of a list are visited, and the others stay
+pub record AreVisited (ts us : List Tile) (j k free free' new new' : ℕ) : Type 0 where
+  pub one : Tile
+  pub two : Tile
+  pub visits : Visits (tile_at ts j) one free 0 new
+  pub other_visits : Visits (tile_at ts k) two free' 0 new'
+  pub written : us ≡ slice_set (slice_set ts j one) k two
 
 -- two tiles are visited, and only then do the grains that leave them reach the tiles next to them
 pub record PairSteps (τ σ : ℕ → Tile) (free : ℕ → ℕ) (b c : Beside) (j k : ℕ) : Type 0 where

@@ -30,7 +30,7 @@ ghost use Rattle.sand_model.specs.IndexLists.{Joins};
 ghost use Rattle.sand_tiles.specs.Places.{bit, IsReady};
 ghost use Rattle.sand_fronts.specs.Tiling.{tiles};
 ghost use Rattle.sand_fronts.specs.TileLists.{but, waits, AreListed};
-ghost use Rattle.sand_fronts.specs.Waves.{only, AreOpen, AreAtRest, AtTile, IsOnBoard, IsDropSite, IsWholeWave, beside_at, over_rim, Steps, PairSteps};
+ghost use Rattle.sand_fronts.specs.Waves.{only, AreOpen, AreAtRest, AtTile, IsOnBoard, IsDropSite, IsWholeWave, beside_at, over_rim, tile_at, AreVisited, Steps, PairSteps};
 ghost use Rattle.sand_fronts.specs.Boards.{tiles_of, free_of, IsBoard, IsSand, Gets};
 
 use crate::board::{Board, DropSite};
@@ -41,6 +41,24 @@ use sand_tiles::{Tile, receive, set_of, visit, visit_pair};
 
 // The first column of a tile.
 const FIRST: u64 = 0x0101_0101_0101_0101;
+
+// Visits two tiles side by side. It is a call of its own, so that nothing else is around the rounds, and on the list, so
+// that no copy of the tiles leaves it: a copy would be read before the words written last have reached memory.
+#[inline(never)]
+fn visit_two(tiles: &mut [Tile], j: usize, k: usize, free_one: u64, free_two: u64) -> (u64, u64)
+    requires tile { j < length tiles.old }
+    requires other_tile { k < length tiles.old }
+    requires ready { IsReady (tile_at tiles.old j) free_one 0 }
+    requires other_ready { IsReady (tile_at tiles.old k) free_two 0 }
+    ensures len { length tiles.new ≡ length tiles.old }
+    ensures visited { AreVisited tiles.old tiles.new j k free_one free_two result.0 result.1 }
+{
+    let (mut one, mut two) = (tiles[j], tiles[k]);
+    let new = visit_pair(&mut one, &mut two, free_one, free_two);
+    tiles[j] = one;
+    tiles[k] = two;
+    new
+}
 
 /// The sand on the tiles, and a list of tiles that have their turn in a wave.
 #[derive(Drop)]
@@ -117,10 +135,13 @@ impl Sand {
         ensures joins { Joins (tiles board.now.shape) 8 (but k (but j (waits (tiles_of self.old))))
             (waits (tiles_of self.new)) self.old.list self.new.list }
     {
-        let (mut one, mut two) = (self.tiles[j], self.tiles[k]);
-        let (new_one, new_two) = visit_pair(&mut one, &mut two, board.free[j], board.free[k]);
-        self.tiles[j] = one;
-        self.tiles[k] = two;
+        let (new_one, new_two) = visit_two(
+            self.tiles.as_mut_slice(),
+            j,
+            k,
+            board.free[j],
+            board.free[k],
+        );
         self.hand_over(board, &board.beside[j], new_one);
         self.hand_over(board, &board.beside[k], new_two);
     }

@@ -127,7 +127,7 @@ pub fn visit(tile: &mut Tile, free: u64, start: u64) -> u64
 }
 
 /// Visits two tiles side by side, as `visit` does without `start`. Returns the places of each that have toppled.
-#[inline(never)]
+#[inline(always)]
 pub fn visit_pair(one: &mut Tile, two: &mut Tile, free_one: u64, free_two: u64) -> (u64, u64)
     requires one { IsReady one.old free_one 0 }
     requires two { IsReady two.old free_two 0 }
