@@ -5,9 +5,9 @@ ghost use Rattle.std.specs.Prelude.{◌≡◌, IfSome};
 ghost use Rattle.std.specs.Thread.{IsSync};
 ghost use Rattle.sand_shared.specs.Passes.{IsPassOf};
 
-use crate::meeting::{Meeting, take_part};
 use sand_model::Pile;
-use sand_shared::{Pass, Record, SharedPile};
+use sand_shared::{Pass, Record, SharedPile, SiteCounts};
+use sand_testing::meeting::Meeting;
 use sand_testing::piles::open_pile;
 use sand_testing::records::is_record;
 use std::alloc::Global;
@@ -15,6 +15,33 @@ use std::test::Fail;
 use std::thread::{Threads, join};
 
 const ROUNDS: usize = 200;
+
+// The site of most drops.
+const SITE: usize = 10;
+
+// Meets seven other threads, drops one grain, then three, and sweeps.
+fn take_part(
+    alloc: Global,
+    start: &Pile,
+    pile: &SharedPile,
+    meeting: &Meeting,
+    mut pass: Pass,
+) -> Option<Pass>
+    requires start { pile.now.terms.start ≡ start.now }
+    requires pass { IsPassOf pile.now pass }
+    ensures { IfSome result (λ p. IsPassOf pile.now p) }
+{
+    let shape = start.shape();
+    let mut counts = SiteCounts::new(alloc, shape).ok()?;
+    if shape.sites() <= SITE || !meeting.met(8) {
+        return None;
+    }
+    pile.drop_at(&mut pass, SITE).ok()?;
+    pile.drop_all(&mut pass, &[SITE, 0, SITE], &mut counts)
+        .ok()?;
+    pile.sweep(&mut pass);
+    Some(pass)
+}
 
 // The first pass, once it has taken in the other.
 fn joined(alloc: Global, pile: &SharedPile, mut one: Pass, other: Pass) -> Option<Pass>
@@ -24,8 +51,8 @@ fn joined(alloc: Global, pile: &SharedPile, mut one: Pass, other: Pass) -> Optio
 {
     match pile.join(alloc, &mut one, other) {
         Ok(()) => Some(one),
-        Err(told) => {
-            drop((one, told));
+        Err(refused) => {
+            drop((one, refused));
             None
         }
     }

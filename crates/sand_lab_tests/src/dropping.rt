@@ -5,11 +5,11 @@ ghost use Rattle.sand_model.specs.Grid.{sites};
 ghost use Rattle.sand_shared.specs.OpenPile.{grid_of_terms};
 ghost use Rattle.sand_shared.specs.Passes.{IsPassOf};
 
-use crate::pile_with_passes::Call::{DropAt, Join, Receipt, Split, Tally, ThrowAway};
-use crate::pile_with_passes::Told::{Done, Dropped, Fault, Number};
-use crate::pile_with_passes::{Left, PileWithPasses, Start, both_leave, is_there};
 use sand_model::{GRAIN_LIMIT, Pile, Shape};
 use sand_shared::{Pass, Record, SharedPile, SiteCounts};
+use sand_testing::pile_with_passes::Call::{DropAt, Join, Receipt, Split, Tally, ThrowAway};
+use sand_testing::pile_with_passes::Returned::{Done, Dropped, Fault, Number};
+use sand_testing::pile_with_passes::{Left, PileWithPasses, Start, both_leave, is_there};
 use sand_testing::piles::{one_site, open_pile};
 use sand_testing::records::is_record;
 use std::alloc::Global;

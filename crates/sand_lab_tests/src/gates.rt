@@ -94,9 +94,7 @@ fn tally_before<R: Threads + Sync>(
         Hold::new(dropper(0, next), observer(1)),
     ];
     let gate = Holds::new(&holds);
-    let ran = run_gated(rt, alloc, &start, wish, &gate);
-    drop(start);
-    let report = ran?;
+    let report = run_gated(rt, alloc, start, wish, &gate)?;
     let tally = report.tallies(0, 0).first().copied();
     drop(report);
     Ok(if gate.have_held() { tally } else { None })
@@ -146,9 +144,7 @@ fn drop_in_turn<R: Threads + Sync>(
     };
     let holds = in_turn(alloc, first, second)?;
     let gate = Holds::new(holds.as_slice());
-    let ran = run_gated(rt, alloc, &start, wish, &gate);
-    drop(start);
-    let report = ran?;
+    let report = run_gated(rt, alloc, start, wish, &gate)?;
     let is_in_turn = alternates(report.journal(0), [first, second]);
     drop(report);
     Ok(gate.have_held() && is_in_turn)
@@ -178,9 +174,7 @@ fn a_worker_sweeps_after_its_gate(rt: HostRuntime) -> Result<(), Fail> {
         Hold::new(worker(0), dropper(0, 1)),
     ];
     let gate = Holds::new(&holds);
-    let ran = run_gated(&rt, rt.alloc(), &start, wish, &gate);
-    drop(start);
-    let report = ran?;
+    let report = run_gated(&rt, rt.alloc(), start, wish, &gate)?;
     assert!(rt; gate.have_held());
     assert_eq!(rt; report.swept(0, 0), 2);
     drop(report);
@@ -203,9 +197,7 @@ fn rounds_sweep_until_nothing_topples(rt: HostRuntime) -> Result<(), Fail> {
         Hold::new(dropper(1, 0), worker(599)),
     ];
     let gate = Holds::new(&holds);
-    let ran = run_gated(&rt, rt.alloc(), &start, wish, &gate);
-    drop(start);
-    let report = ran?;
+    let report = run_gated(&rt, rt.alloc(), start, wish, &gate)?;
     assert!(rt; gate.have_held());
     assert_eq!(rt;
         (report.total().topplings(), report.swept(0, 0)),

@@ -1,17 +1,14 @@
 //! Passes that hand on rows and quotas, and endings that fail until everything is gathered.
 
-ghost use Rattle.std.specs.Prelude.{IfOk};
-ghost use Rattle.sand_shared.specs.Passes.{IsPassOf};
-
-use crate::pile_with_passes::Call::{
-    DropAt, IsWhole, Join, JoinAll, Receipt, Rows, Split, SplitRows, Tally, ThrowAway,
+use sand_testing::pile_with_passes::Call::{
+    DropAt, IntoBare, IsWhole, Join, JoinAll, JoinBare, Receipt, Rows, Split, SplitRows, Sweep,
+    Tally, ThrowAway,
 };
-use crate::pile_with_passes::Told::{Between, Done, Dropped, Fault, Is, Number};
-use crate::pile_with_passes::{ENDINGS, Ending, Left, PileWithPasses, Start, both_leave, is_there};
-use sand_shared::{BarePass, SharedPile};
-use sand_testing::shared::{bare_of, shared_pile};
+use sand_testing::pile_with_passes::Returned::{Between, Done, Dropped, Fault, Is, Number};
+use sand_testing::pile_with_passes::{
+    ENDINGS, Ending, Left, PileWithPasses, Start, both_leave, is_there,
+};
 use std::alloc::Global;
-use std::test::Fail;
 
 // Three rows of one site each.
 const ROWS: Start<'static> = Start {
@@ -65,13 +62,13 @@ fn a_list_is_joined_up_to_rows_that_are_apart(rt: HostRuntime) {
         (DropAt(1, 2), Number(0)),
         (SplitRows(0, 1), Done),
         (SplitRows(0, 1), Done),
-        (JoinAll, Fault(12)),
+        (JoinAll(0), Fault(12)),
         (Receipt(0, 0), Dropped(0, 2)),
         (Rows(0), Between(0, 1)),
         (Rows(1), Between(2, 3)),
         (Rows(2), Between(1, 2)),
         (Join(0, 2), Done),
-        (JoinAll, Done),
+        (JoinAll(0), Done),
         (IsWhole(0), Is(true)),
     ];
     assert!(rt; is_there(PileWithPasses::played(rt.alloc(), start, &calls)));
@@ -187,47 +184,30 @@ fn ends_after_a_hundred_refusals(rt: HostRuntime) {
     }
 }
 
-// Two rows and a bare pass of each; the upper row has toppled twice in place.
-fn two_rows(alloc: Global) -> Result<(SharedPile, BarePass, BarePass), Fail>
-    ensures { IfOk result (λ r. IsPassOf r.0 r.1 × IsPassOf r.0 r.2) }
-{
-    let (pile, mut pass) = shared_pile(alloc, 1, 2, &[8, 7], 0)?;
-    match pile.split_rows(alloc, &mut pass, 1) {
-        Ok(lower) => {
-            pile.sweep(&mut pass);
-            Ok((pile, bare_of(pass), bare_of(lower)))
-        }
-        Err(fault) => {
-            drop((pile, pass));
-            Err(fault.into())
-        }
-    }
-}
-
-// Whether a pass that lacks the rows of another cannot settle the pile, and takes it in.
-fn take_in(alloc: Global, pile: &SharedPile, pass: &mut BarePass, other: BarePass) -> bool
-    requires pass { IsPassOf pile.now pass.old }
-    requires other { IsPassOf pile.now other }
-    ensures { IsPassOf pile.now pass.new }
-{
-    let rest = pile.settle_rest(alloc, pass);
-    let joined = pile.join_bare(alloc, pass, other);
-    let is_taken = rest.is_err() && joined.is_ok();
-    drop((rest, joined));
-    is_taken
-}
-
-// The lower row then has 9 grains, which remain to be settled.
+// The upper row topples twice in place. The lower one then has 9 grains, which remain to be settled.
 #[test]
-fn bare_passes_are_gathered_and_settled(rt: HostRuntime) -> Result<(), Fail> {
-    let (pile, mut upper, lower) = two_rows(rt.alloc())?;
-    assert!(rt; take_in(rt.alloc(), &pile, &mut upper, lower));
-    let rest = pile.settle_rest(rt.alloc(), &mut upper);
-    drop((pile, upper));
-    let rest = rest?;
-    assert!(rt; rest.pile().heights() == [2, 1].as_slice());
-    assert!(rt; rest.odometers() == [0, 2].as_slice());
-    assert_eq!(rt; (rest.topplings(), rest.lost()), (2, 6));
-    drop(rest);
-    Ok(())
+fn bare_passes_are_gathered_and_settled(rt: HostRuntime) {
+    let start = Start {
+        sides: (1, 2),
+        heights: &[8, 7],
+        quota: 0,
+    };
+    let left = Left {
+        history: &[],
+        heights: &[2, 1],
+        odometer: &[0, 2],
+        lost: 6,
+    };
+    let upper = [
+        (SplitRows(0, 1), Done),
+        (Sweep(0), Number(2)),
+        (IntoBare(0), Done),
+    ];
+    let lower = [(IntoBare(0), Done), (JoinBare, Done)];
+    let pile = PileWithPasses::played(rt.alloc(), start, &upper).expect(&rt, "two rows");
+    let pile = pile
+        .misses(rt.alloc(), Ending::SettleRest)
+        .expect(&rt, "the lower row");
+    let pile = pile.play(rt.alloc(), &lower).expect(&rt, "one pass");
+    assert!(rt; pile.leaves(rt.alloc(), Ending::SettleRest, left));
 }

@@ -16,11 +16,6 @@ mod gates;
 #[cfg(test)]
 mod gathering;
 pub mod holding;
-pub mod meeting;
-#[cfg(test)]
-mod pairs;
-#[cfg(test)]
-mod pile_with_passes;
 #[cfg(test)]
 mod plan;
 #[cfg(test)]

@@ -1,16 +1,15 @@
 //! Records that are copied and continued.
 
 use sand_shared::Record;
-use sand_testing::piles::one_site;
-use sand_testing::records::{are_within_limit, is_record};
-use sand_testing::shared::dropped_on;
+use sand_testing::records::{is_record, may_follow};
+use sand_testing::shared::{dropped_on, dropped_on_a_site};
 use std::alloc::Global;
 use std::test::Fail;
 
 // The first record followed by one more drop.
 fn after_the_first(alloc: Global, first: &Record) -> Result<Record, Fail> {
     let next = dropped_on(alloc, first.pile(), 1)?;
-    if !are_within_limit(first, &next) {
+    if !may_follow(first, &next) {
         drop(next);
         return Err("too many grains".into());
     }
@@ -21,13 +20,13 @@ fn after_the_first(alloc: Global, first: &Record) -> Result<Record, Fail> {
 
 fn append_one(alloc: Global, record: &mut Record) -> Result<(), Fail> {
     let next = dropped_on(alloc, record.pile(), 1)?;
-    if !are_within_limit(record, &next) {
+    if !may_follow(record, &next) {
         drop(next);
         return Err("too many grains".into());
     }
-    let told = record.append(alloc, &next);
+    let appended = record.append(alloc, &next);
     drop(next);
-    told?;
+    appended?;
     Ok(())
 }
 
@@ -46,14 +45,6 @@ fn grown(alloc: Global, mut record: Record) -> Result<Record, Fail> {
 fn grown_copy(alloc: Global, record: &Record) -> Result<Record, Fail> {
     let copy = record.copy_with_room(alloc, 1)?;
     grown(alloc, copy)
-}
-
-// The record of drops on one site.
-fn record_of(alloc: Global, height: u64, drops: u64) -> Result<Record, Fail> {
-    let start = one_site(alloc, height)?;
-    let record = dropped_on(alloc, &start, drops);
-    drop(start);
-    record
 }
 
 fn is_three(record: &Record) -> bool {
@@ -77,18 +68,18 @@ fn is_continued(alloc: Global, first: &Record) -> Result<bool, Fail> {
 // Three drops on an empty site, then one that topples it.
 #[test]
 fn one_record_after_another(rt: HostRuntime) -> Result<(), Fail> {
-    let first = record_of(rt.alloc(), 0, 3)?;
+    let first = dropped_on_a_site(rt.alloc(), 0, 3)?;
     assert!(rt; is_three(&first));
-    let told = is_continued(rt.alloc(), &first);
+    let is_continued = is_continued(rt.alloc(), &first);
     drop(first);
-    assert!(rt; told?);
+    assert!(rt; is_continued?);
     Ok(())
 }
 
 // Two records share a history. One grows, the other does not change.
 #[test]
 fn a_shared_history_grows_in_one_record_alone(rt: HostRuntime) -> Result<(), Fail> {
-    let record = record_of(rt.alloc(), 0, 3)?;
+    let record = dropped_on_a_site(rt.alloc(), 0, 3)?;
     let (one, other) = record.twice(rt.alloc())?;
     let grown = grown(rt.alloc(), one);
     assert!(rt; is_three(&other));
@@ -99,7 +90,7 @@ fn a_shared_history_grows_in_one_record_alone(rt: HostRuntime) -> Result<(), Fai
 
 #[test]
 fn a_copy_of_a_record(rt: HostRuntime) -> Result<(), Fail> {
-    let record = record_of(rt.alloc(), 3, 2)?;
+    let record = dropped_on_a_site(rt.alloc(), 3, 2)?;
     let copy = record.copy(rt.alloc());
     drop(record);
     let copy = copy?;

@@ -40,9 +40,7 @@ fn two_epochs_on_one_site(rt: HostRuntime) -> Result<(), Fail> {
         observers: 2,
         ..QUIET
     };
-    let ran = run_gated(&rt, rt.alloc(), &start, wish, &Open);
-    drop(start);
-    let report = ran?;
+    let report = run_gated(&rt, rt.alloc(), start, wish, &Open)?;
     let [first, second] = report.records() else {
         panic!(rt; "two records");
     };
@@ -61,9 +59,7 @@ fn droppers_that_drop_nothing(rt: HostRuntime) -> Result<(), Fail> {
         droppers: 64,
         ..QUIET
     };
-    let ran = run_gated(&rt, rt.alloc(), &start, wish, &Open);
-    drop(start);
-    let report = ran?;
+    let report = run_gated(&rt, rt.alloc(), start, wish, &Open)?;
     let [epoch] = report.records() else {
         panic!(rt; "one record");
     };
@@ -85,9 +81,7 @@ fn as_many_threads_as_there_may_be(rt: HostRuntime) -> Result<(), Fail> {
         ..QUIET
     };
     let left = one_left(&[0], &[16], 64);
-    let told = leaves(&rt, rt.alloc(), &start, wish, left);
-    drop(start);
-    assert!(rt; told?);
+    assert!(rt; leaves(&rt, rt.alloc(), start, wish, left)?);
     Ok(())
 }
 
@@ -100,9 +94,7 @@ fn as_many_grains_as_the_limit(rt: HostRuntime) -> Result<(), Fail> {
         ..QUIET
     };
     let left = one_left(&[3], &[274_877_906_943], 1_099_511_627_772);
-    let told = leaves(&rt, rt.alloc(), &start, wish, left);
-    drop(start);
-    assert!(rt; told?);
+    assert!(rt; leaves(&rt, rt.alloc(), start, wish, left)?);
     Ok(())
 }
 
@@ -124,9 +116,7 @@ fn three_droppers_on_a_cylinder(rt: HostRuntime) -> Result<(), Fail> {
         odometer: &[24, 26, 23, 24, 24, 35, 36, 33, 34, 35, 26, 28, 26, 25, 26],
         lost: 252,
     };
-    let told = leaves(&rt, rt.alloc(), &start, wish, left);
-    drop(start);
-    assert!(rt; told?);
+    assert!(rt; leaves(&rt, rt.alloc(), start, wish, left)?);
     Ok(())
 }
 
@@ -160,8 +150,8 @@ const LEFT: Left<'static> = Left {
 // Runs each spread twelve times.
 #[test]
 fn the_same_however_it_is_spread(rt: HostRuntime) -> Result<(), Fail> {
-    let start = open_pile(rt.alloc(), 8, 8, &[3; 64])?;
     for n in 0..96 {
+        let start = open_pile(rt.alloc(), 8, 8, &[3; 64])?;
         let (workers, sweeps, observers) = SPREADS[n % 8];
         let wish = Wish {
             seed: 42,
@@ -172,8 +162,7 @@ fn the_same_however_it_is_spread(rt: HostRuntime) -> Result<(), Fail> {
             sweeps,
             observers,
         };
-        assert!(rt; leaves(&rt, rt.alloc(), &start, wish, LEFT).ok() == Some(true));
+        assert!(rt; leaves(&rt, rt.alloc(), start, wish, LEFT)?);
     }
-    drop(start);
     Ok(())
 }

@@ -17,7 +17,7 @@ use std::thread::Threads;
 pub fn run_gated<R: Threads + Sync, G: Gate>(
     rt: &R,
     alloc: Global,
-    start: &Pile,
+    start: Pile,
     wish: Wish,
     gate: &G,
 ) -> Result<Report, LabFault>
@@ -25,13 +25,20 @@ pub fn run_gated<R: Threads + Sync, G: Gate>(
     ensures tallies { IfOk result (λ p. (t : ℕ) → t < wish.epochs → length (sheet_at p t).tallies ≡ wish.observers) }
     ensures swept { IfOk result (λ p. (t : ℕ) → t < wish.epochs → length (sheet_at p t).swept ≡ wish.workers) }
 {
-    let album = Album::new(alloc, wish.epochs)?;
-    let ran = run_into(rt, alloc, start, wish, gate, &album);
-    drop(album);
-    ran
+    match Album::new(alloc, wish.epochs) {
+        Ok(album) => {
+            let ran = run_into(rt, alloc, &start, wish, gate, &album);
+            drop((start, album));
+            ran
+        }
+        Err(fault) => {
+            drop(start);
+            Err(fault)
+        }
+    }
 }
 
-/// The same on one site of this height, without the report.
+/// Runs on one site of this height.
 pub fn run_on_a_site<R: Threads + Sync, G: Gate>(
     rt: &R,
     alloc: Global,
@@ -39,10 +46,7 @@ pub fn run_on_a_site<R: Threads + Sync, G: Gate>(
     wish: Wish,
     gate: &G,
 ) -> Result<(), Fail> {
-    let start = one_site(alloc, height)?;
-    let ran = run_gated(rt, alloc, &start, wish, gate);
-    drop(start);
-    let report = ran?;
+    let report = run_gated(rt, alloc, one_site(alloc, height)?, wish, gate)?;
     drop(report);
     Ok(())
 }
@@ -70,7 +74,7 @@ pub fn is_left(record: &Record, left: Left<'_>) -> bool {
 pub fn leaves<R: Threads + Sync>(
     rt: &R,
     alloc: Global,
-    start: &Pile,
+    start: Pile,
     wish: Wish,
     left: Left<'_>,
 ) -> Result<bool, LabFault> {

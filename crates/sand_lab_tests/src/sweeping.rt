@@ -1,9 +1,9 @@
 //! Sweeps, on values worked out by hand.
 
-use crate::pile_with_passes::Call::{DropAt, Join, Split, SplitRows, Sweep, Toppled};
-use crate::pile_with_passes::Told::{Done, Number};
-use crate::pile_with_passes::{Ending, Left, PileWithPasses, Start, both_leave, is_there};
 use sand_model::Edge;
+use sand_testing::pile_with_passes::Call::{DropAt, Join, Split, SplitRows, Sweep, Toppled};
+use sand_testing::pile_with_passes::Returned::{Done, Number};
+use sand_testing::pile_with_passes::{Ending, Left, PileWithPasses, Start, both_leave, is_there};
 use sand_testing::piles::pile_on;
 use std::test::Fail;
 

@@ -15,9 +15,7 @@ fn each_worker_sweeps_its_row(rt: HostRuntime) -> Result<(), Fail> {
         sweeps: 1,
         ..QUIET
     };
-    let ran = run_gated(&rt, rt.alloc(), &start, wish, &Open);
-    drop(start);
-    let report = ran?;
+    let report = run_gated(&rt, rt.alloc(), start, wish, &Open)?;
     assert_eq!(rt; [report.swept(0, 0), report.swept(0, 1)], [2, 2]);
     assert!(rt; is_record(report.total(), &[], &[2; 4], &[1; 4], 8));
     drop(report);
@@ -33,9 +31,7 @@ fn workers_without_rows_sweep_nothing(rt: HostRuntime) -> Result<(), Fail> {
         sweeps: 1000,
         ..QUIET
     };
-    let ran = run_gated(&rt, rt.alloc(), &start, wish, &Open);
-    drop(start);
-    let report = ran?;
+    let report = run_gated(&rt, rt.alloc(), start, wish, &Open)?;
     for worker in 0..16 {
         let due = if worker == 7 || worker == 15 { 2 } else { 0 };
         assert_eq!(rt; report.swept(0, worker), due, "worker {worker}");
@@ -56,9 +52,7 @@ fn rounds_go_on_while_one_band_topples(rt: HostRuntime) -> Result<(), Fail> {
         sweeps: 2,
         ..QUIET
     };
-    let ran = run_gated(&rt, rt.alloc(), &start, wish, &Open);
-    drop(start);
-    let report = ran?;
+    let report = run_gated(&rt, rt.alloc(), start, wish, &Open)?;
     assert_eq!(rt; [report.swept(0, 0), report.swept(0, 1)], [0, 489]);
     assert_eq!(rt; report.total().topplings(), 494);
     drop(report);

@@ -1,9 +1,9 @@
 //! Two threads that drop or sweep on one pile at the same time, on values worked out by hand.
 
-use crate::pile_with_passes::Call::{DropAt, Join, Split, SplitRows, Toppled};
-use crate::pile_with_passes::Told::{Done, Number};
-use crate::pile_with_passes::{ENDINGS, Ending, Left, PileWithPasses, Start};
 use crate::sweeping::{TWO_ROWS, TWO_ROWS_SWEPT};
+use sand_testing::pile_with_passes::Call::{DropAt, Join, Split, SplitRows, Toppled};
+use sand_testing::pile_with_passes::Returned::{Done, Number};
+use sand_testing::pile_with_passes::{ENDINGS, Ending, Left, PileWithPasses, Start};
 use std::alloc::Global;
 use std::thread::Threads;
 

@@ -1,7 +1,6 @@
 //! Whole commands, from bytes to bytes.
 
-use crate::memory::{refuse, was_refused};
-use crate::trying::{Spares, Tried, each_number};
+use crate::trying::{Spares, each_refused_on};
 use sand_desk::run_command;
 use sand_testing::words::words_of;
 use std::alloc::Global;
@@ -9,7 +8,7 @@ use std::process::Abort;
 use std::test::Fail;
 use std::thread::Threads;
 
-// A command line, its input, and its output.
+// A command line, its standard input, and its standard output.
 type Case = (&'static str, &'static str, &'static str);
 
 const COMMANDS: [Case; 13] = [
@@ -71,44 +70,30 @@ const RUNS: [Case; 3] = [
     ),
 ];
 
-// Whether a command writes this text, or the number of its fault; 0 if it failed but wrote something. Its writer
-// allocates nothing.
+// Whether a command writes this to its standard output, or the number of its fault; 0 if it failed but wrote something.
+// Its writer allocates nothing.
 fn writes<R: Threads + Sync>(
     rt: &R,
     alloc: Global,
     words: &[String],
-    input: &str,
-    text: &str,
+    stdin: &str,
+    stdout: &str,
 ) -> Result<bool, u32> {
     if words.is_empty() {
         return Err(0);
     }
-    let mut reader = input.as_bytes();
+    let mut reader = stdin.as_bytes();
     let mut room = [0; 256];
     let mut writer = room.as_mut_slice();
     let done = run_command(rt, alloc, words, &mut reader, &mut writer);
     let left = writer.len();
     match done {
-        Ok(()) => Ok(room.starts_with(text.as_bytes()) && left.saturating_add(text.len()) == 256),
+        Ok(()) => {
+            let is_written = room.starts_with(stdout.as_bytes());
+            Ok(is_written && left.saturating_add(stdout.len()) == 256)
+        }
         Err(fault) if left == 256 => Err(fault.number()),
         Err(_) => Err(0),
-    }
-}
-
-fn try_command<R: Threads + Sync>(
-    rt: &R,
-    alloc: Global,
-    words: &[String],
-    case: Case,
-    number: u32,
-) -> Tried {
-    let (_, input, text) = case;
-    refuse(alloc, number);
-    let tried = writes(rt, alloc, words, input, text);
-    was_refused(alloc);
-    match tried {
-        Ok(is_right) => Tried::done(is_right),
-        Err(fault) => Tried::failed(fault, writes(rt, alloc, words, input, text) == Ok(true)),
     }
 }
 
@@ -119,10 +104,16 @@ fn each_refused_of<R: Threads + Sync + Print + Abort>(
     case: Case,
     spares: Spares,
 ) -> Result<(), Fail> {
-    let words = words_of(alloc, case.0)?;
-    each_number(rt, alloc, case.0, spares, |alloc: Global, number: u32| {
-        Ok(try_command(rt, alloc, words.as_slice(), case, number))
-    })
+    let (line, stdin, stdout) = case;
+    let words = words_of(alloc, line)?;
+    each_refused_on(
+        rt,
+        alloc,
+        line,
+        spares,
+        |_: Global| Ok(()),
+        |alloc: Global, _: &mut ()| writes(rt, alloc, words.as_slice(), stdin, stdout),
+    )
 }
 
 #[test]

@@ -1,6 +1,6 @@
 //! The burning test and the group of recurrent piles.
 
-use crate::trying::{came_to, each_refused};
+use crate::trying::{each_refused, outcome};
 use sand_group::{Burned, Recurrent, act, add, burn, equivalent_recurrent, identity, inverse};
 use sand_model::Shape;
 use sand_testing::piles::open_pile;
@@ -43,7 +43,7 @@ fn burn_of_a_recurrent_pile_reports_out_of_memory(rt: HostRuntime) -> Result<(),
         &rt,
         rt.alloc(),
         "burn, where the pile is recurrent",
-        |alloc: Global| came_to!(burn(alloc, &pile), burned => is_order_of_three(&burned)),
+        |alloc: Global| outcome!(burn(alloc, &pile), burned => is_order_of_three(&burned)),
     )
 }
 
@@ -54,7 +54,7 @@ fn burn_with_a_forbidden_set_reports_out_of_memory(rt: HostRuntime) -> Result<()
         &rt,
         rt.alloc(),
         "burn, where a set is forbidden",
-        |alloc: Global| came_to!(burn(alloc, &pile), burned => is_forbidden(&burned, &[0, 1])),
+        |alloc: Global| outcome!(burn(alloc, &pile), burned => is_forbidden(&burned, &[0, 1])),
     )
 }
 
@@ -62,7 +62,7 @@ fn burn_with_a_forbidden_set_reports_out_of_memory(rt: HostRuntime) -> Result<()
 fn from_pile_reports_out_of_memory(rt: HostRuntime) -> Result<(), Fail> {
     let pile = open_pile(rt.alloc(), 2, 1, &[3, 1])?;
     each_refused(&rt, rt.alloc(), "Recurrent::from_pile", |alloc: Global| {
-        came_to!(Recurrent::from_pile(alloc, &pile), pile => has_heights(&pile, &[3, 1]))
+        outcome!(Recurrent::from_pile(alloc, &pile), pile => has_heights(&pile, &[3, 1]))
     })
 }
 
@@ -71,7 +71,7 @@ fn add_reports_out_of_memory(rt: HostRuntime) -> Result<(), Fail> {
     let first = recurrent(rt.alloc(), [3, 1])?;
     let second = recurrent(rt.alloc(), [0, 2])?;
     each_refused(&rt, rt.alloc(), "add", |alloc: Global| {
-        came_to!(add(alloc, &first, &second), sum => has_heights(&sum, &[3, 3]))
+        outcome!(add(alloc, &first, &second), sum => has_heights(&sum, &[3, 3]))
     })
 }
 
@@ -79,7 +79,7 @@ fn add_reports_out_of_memory(rt: HostRuntime) -> Result<(), Fail> {
 fn identity_reports_out_of_memory(rt: HostRuntime) -> Result<(), Fail> {
     let shape = Shape::new(3, 3)?;
     each_refused(&rt, rt.alloc(), "identity", |alloc: Global| {
-        came_to!(identity(alloc, shape), pile => has_heights(&pile, &[2, 1, 2, 1, 0, 1, 2, 1, 2]))
+        outcome!(identity(alloc, shape), pile => has_heights(&pile, &[2, 1, 2, 1, 0, 1, 2, 1, 2]))
     })
 }
 
@@ -87,7 +87,7 @@ fn identity_reports_out_of_memory(rt: HostRuntime) -> Result<(), Fail> {
 fn inverse_reports_out_of_memory(rt: HostRuntime) -> Result<(), Fail> {
     let pile = recurrent(rt.alloc(), [3, 1])?;
     each_refused(&rt, rt.alloc(), "inverse", |alloc: Global| {
-        came_to!(inverse(alloc, &pile), pile => has_heights(&pile, &[0, 2]))
+        outcome!(inverse(alloc, &pile), pile => has_heights(&pile, &[0, 2]))
     })
 }
 
@@ -96,7 +96,7 @@ fn act_reports_out_of_memory(rt: HostRuntime) -> Result<(), Fail> {
     let pile = recurrent(rt.alloc(), [3, 3])?;
     assert!(rt; pile.pile().shape().sites() > 0);
     each_refused(&rt, rt.alloc(), "act", |alloc: Global| {
-        came_to!(act(alloc, &pile, 0), pile => has_heights(&pile, &[1, 0]))
+        outcome!(act(alloc, &pile, 0), pile => has_heights(&pile, &[1, 0]))
     })
 }
 
@@ -104,6 +104,6 @@ fn act_reports_out_of_memory(rt: HostRuntime) -> Result<(), Fail> {
 fn equivalent_recurrent_reports_out_of_memory(rt: HostRuntime) -> Result<(), Fail> {
     let pile = open_pile(rt.alloc(), 3, 1, &[5, 0, 1])?;
     each_refused(&rt, rt.alloc(), "equivalent_recurrent", |alloc: Global| {
-        came_to!(equivalent_recurrent(alloc, &pile), pile => has_heights(&pile, &[1, 1, 1]))
+        outcome!(equivalent_recurrent(alloc, &pile), pile => has_heights(&pile, &[1, 1, 1]))
     })
 }

@@ -14,10 +14,6 @@
 #![tactic(auto)]
 
 #[cfg(test)]
-mod bare;
-#[cfg(test)]
-mod closing;
-#[cfg(test)]
 mod commands;
 #[cfg(test)]
 mod group;

@@ -1,30 +1,22 @@
-//! Shared piles and passes: made, split and joined.
+//! Shared piles and passes: made, split, joined and ended.
 
-ghost use Rattle.std.specs.Prelude.{◌<◌, All, IfOk, IfErr};
-ghost use Rattle.sand_model.specs.Grid.{sites};
-ghost use Rattle.sand_shared.specs.OpenPile.{grid_of_terms};
-ghost use Rattle.sand_shared.specs.Passes.{IsPassOf};
-
-use crate::memory::{refuse, was_refused};
+use crate::memory::was_refused;
 use crate::piles::full;
-use crate::trying::{MEMORY, Spares, Tried, came_to, each_number, each_refused};
+use crate::trying::{MEMORY, Spares, each_refused, each_refused_on, outcome};
 use sand_model::Shape;
 use sand_shared::{Pass, SharedPile, SiteCounts};
-use sand_testing::records::is_record;
-use sand_testing::shared::{closed, drop_rest, shared_pile};
+use sand_testing::pile_with_passes::Call::{
+    Counts, DropRest, IntoBare, Join, JoinAll, JoinBare, Rows, Split, SplitRows, Sweep, Toppled,
+};
+use sand_testing::pile_with_passes::Returned::{Between, Done, Fault, Has, Number};
+use sand_testing::pile_with_passes::{Call, Ending, Left, PileWithPasses, Returned, Start};
 use std::alloc::Global;
 use std::test::Fail;
 
-// The remaining quota of a pass, its number of receipts, what it has seen, and its rows.
-fn view(pass: &Pass) -> (u64, usize, u64, (u16, u16)) {
-    (pass.left(), pass.receipts().len(), pass.seen(), pass.rows())
-}
-
-// The same of a pass that is not needed any more.
-fn view_of(pass: Pass) -> (u64, usize, u64, (u16, u16)) {
-    let view = view(&pass);
-    drop(pass);
-    view
+// Whether a pass has a quota of 7 and all of three rows, and has done nothing.
+fn is_first(pass: &Pass) -> bool {
+    let drops = (pass.left(), pass.receipts().len(), pass.seen());
+    drops == (7, 0, 0) && pass.rows() == (0, 3)
 }
 
 #[test]
@@ -34,7 +26,7 @@ fn new_shared_pile_reports_out_of_memory(rt: HostRuntime) -> Result<(), Fail> {
         &rt,
         rt.alloc(),
         "SharedPile::new",
-        |alloc: Global| came_to!(SharedPile::new(alloc, &start, 7), made => view(&made.1) == (7, 0, 0, (0, 3))),
+        |alloc: Global| outcome!(SharedPile::new(alloc, &start, 7), made => is_first(&made.1)),
     )
 }
 
@@ -49,226 +41,276 @@ fn new_site_counts_report_out_of_memory(rt: HostRuntime) -> Result<(), Fail> {
     })
 }
 
-// Splits a quota of 2 off a pass with a quota of 5. Returns whether both are right, or the number of the fault.
-fn split_two(alloc: Global, pile: &SharedPile, pass: &mut Pass) -> Result<bool, u32>
-    requires { IsPassOf pile.now pass.old }
-    ensures { IsPassOf pile.now pass.new }
-{
-    match pile.split(alloc, pass, 2) {
-        Ok(child) => Ok(view_of(child) == (2, 0, 0, (0, 0)) && view(pass) == (3, 0, 0, (0, 3))),
-        Err(fault) => Err(fault.number()),
-    }
+// A call on a shared pile, or its ending if no call is given: the calls before it, what these calls return until it
+// succeeds, and those after it, before the ending.
+#[derive(Clone, Copy)]
+struct Trial {
+    name: &'static str,
+    start: Start<'static>,
+    before: &'static [(Call, Returned)],
+    unchanged: &'static [(Call, Returned)],
+    call: Option<Call>,
+    after: &'static [(Call, Returned)],
+    ending: Ending,
+    left: Left<'static>,
 }
 
-fn split_once(alloc: Global, number: u32) -> Result<Tried, Fail> {
-    let (pile, mut pass) = shared_pile(alloc, 3, 3, &[3; 9], 5)?;
-    refuse(alloc, number);
-    let tried = split_two(alloc, &pile, &mut pass);
-    was_refused(alloc);
-    let tried = match tried {
-        Ok(is_right) => Tried::done(is_right),
-        Err(fault) => {
-            let is_unchanged = view(&pass) == (5, 0, 0, (0, 3));
-            let is_right = split_two(alloc, &pile, &mut pass) == Ok(true);
-            Tried::failed(fault, is_unchanged && is_right)
-        }
-    };
-    drop((pile, pass));
-    Ok(tried)
-}
+// Three by three sites of three grains, and a quota of five.
+const SPLIT: Trial = Trial {
+    name: "SharedPile::split",
+    start: Start {
+        sides: (3, 3),
+        heights: &[3; 9],
+        quota: 5,
+    },
+    before: &[],
+    unchanged: &[(Counts(0), Has(5, 0, 0)), (Rows(0), Between(0, 3))],
+    call: Some(Split(0, 2)),
+    after: &[
+        (Counts(1), Has(2, 0, 0)),
+        (Rows(1), Between(0, 0)),
+        (Counts(0), Has(3, 0, 0)),
+        (Rows(0), Between(0, 3)),
+        (Join(0, 1), Done),
+    ],
+    ending: Ending::Close,
+    left: Left {
+        history: &[],
+        heights: &[3; 9],
+        odometer: &[0; 9],
+        lost: 0,
+    },
+};
 
-#[test]
-fn split_reports_out_of_memory(rt: HostRuntime) -> Result<(), Fail> {
-    each_number(
-        &rt,
-        rt.alloc(),
-        "SharedPile::split",
-        Spares::Nothing,
-        split_once,
-    )
-}
+// The last two of three rows are split off.
+const SPLIT_ROWS: Trial = Trial {
+    name: "SharedPile::split_rows",
+    call: Some(SplitRows(0, 2)),
+    after: &[
+        (Counts(1), Has(0, 0, 0)),
+        (Rows(1), Between(1, 3)),
+        (Counts(0), Has(5, 0, 0)),
+        (Rows(0), Between(0, 1)),
+        (Join(0, 1), Done),
+    ],
+    ..SPLIT
+};
 
-// Splits the last two of three rows off a pass. Returns whether both are right, or the number of the fault.
-fn split_rows(alloc: Global, pile: &SharedPile, pass: &mut Pass) -> Result<bool, u32>
-    requires { IsPassOf pile.now pass.old }
-    ensures { IsPassOf pile.now pass.new }
-{
-    match pile.split_rows(alloc, pass, 2) {
-        Ok(child) => Ok(view_of(child) == (0, 0, 0, (1, 3)) && view(pass) == (5, 0, 0, (0, 1))),
-        Err(fault) => Err(fault.number()),
-    }
-}
-
-fn split_rows_once(alloc: Global, number: u32) -> Result<Tried, Fail> {
-    let (pile, mut pass) = shared_pile(alloc, 3, 3, &[3; 9], 5)?;
-    refuse(alloc, number);
-    let tried = split_rows(alloc, &pile, &mut pass);
-    was_refused(alloc);
-    let tried = match tried {
-        Ok(is_right) => Tried::done(is_right),
-        Err(fault) => {
-            let is_unchanged = view(&pass) == (5, 0, 0, (0, 3));
-            let is_right = split_rows(alloc, &pile, &mut pass) == Ok(true);
-            Tried::failed(fault, is_unchanged && is_right)
-        }
-    };
-    drop((pile, pass));
-    Ok(tried)
-}
-
-#[test]
-fn split_rows_reports_out_of_memory(rt: HostRuntime) -> Result<(), Fail> {
-    each_number(
-        &rt,
-        rt.alloc(),
-        "SharedPile::split_rows",
-        Spares::Nothing,
-        split_rows_once,
-    )
-}
-
-// Joins a pass to another. If that fails, the pass comes back with the number of the fault.
-fn join(alloc: Global, pile: &SharedPile, pass: &mut Pass, other: Pass) -> Result<(), (u32, Pass)>
-    requires pass { IsPassOf pile.now pass.old }
-    requires other { IsPassOf pile.now other }
-    ensures of_pile { IsPassOf pile.now pass.new }
-    ensures back { IfErr result (λ e. IsPassOf pile.now e.1) }
-{
-    match pile.join(alloc, pass, other) {
-        Ok(()) => Ok(()),
-        Err((fault, other)) => Err((fault.number(), other)),
-    }
-}
-
-// Joins a pass with allocation `number` refused; if that fails, joins the pass that came back. Returns the number of
-// the first fault, and whether they are joined.
-fn join_again(
-    alloc: Global,
-    number: u32,
-    pile: &SharedPile,
-    pass: &mut Pass,
-    other: Pass,
-) -> (Option<u32>, bool)
-    requires pass { IsPassOf pile.now pass.old }
-    requires other { IsPassOf pile.now other }
-    ensures { IsPassOf pile.now pass.new }
-{
-    refuse(alloc, number);
-    let tried = join(alloc, pile, pass, other);
-    was_refused(alloc);
-    match tried {
-        Ok(()) => (None, true),
-        Err((fault, other)) => (Some(fault), join(alloc, pile, pass, other).ok().is_some()),
-    }
-}
-
-// A pass and its child that have dropped twice each.
-fn dropped_twice(alloc: Global) -> Result<(SharedPile, Pass, Pass), Fail>
-    ensures { IfOk result (λ r. IsPassOf r.0 r.1 × IsPassOf r.0 r.2) }
-{
-    let (pile, mut pass) = shared_pile(alloc, 1, 1, &[0], 4)?;
-    match pile.split(alloc, &mut pass, 2) {
-        Ok(mut child) => {
-            drop_rest(&pile, &mut pass, 0);
-            drop_rest(&pile, &mut child, 0);
-            Ok((pile, pass, child))
-        }
-        Err(fault) => {
-            drop((pile, pass));
-            Err(fault.into())
-        }
-    }
-}
+const ONE_SITE: Start<'static> = Start {
+    sides: (1, 1),
+    heights: &[0],
+    quota: 4,
+};
 
 // A pass of quota 2 that has dropped twice is joined to a child of quota 2, which has to grow for its receipts.
-fn join_once(alloc: Global, number: u32) -> Result<Tried, Fail> {
-    let (pile, pass, mut child) = dropped_twice(alloc)?;
-    let (fault, is_joined) = join_again(alloc, number, &pile, &mut child, pass);
-    let record = closed(alloc, pile, child)?;
-    let is_right = is_joined && is_record(&record, &[0; 4], &[0], &[1], 4);
-    drop(record);
-    Ok(Tried { fault, is_right })
+const JOIN: Trial = Trial {
+    name: "SharedPile::join",
+    start: ONE_SITE,
+    before: &[
+        (Split(0, 2), Done),
+        (DropRest(0, 0), Done),
+        (DropRest(1, 0), Done),
+    ],
+    unchanged: &[(Counts(1), Has(0, 2, 4)), (Counts(0), Has(0, 2, 2))],
+    call: Some(Join(1, 0)),
+    after: &[],
+    ending: Ending::Close,
+    left: Left {
+        history: &[0; 4],
+        heights: &[0],
+        odometer: &[1],
+        lost: 4,
+    },
+};
+
+// A child of quota 1 takes in the pass, which has dropped twelve times, and another child. It has to grow for the
+// receipts of each.
+const JOIN_ALL: Trial = Trial {
+    name: "SharedPile::join_all",
+    start: Start {
+        quota: 14,
+        ..ONE_SITE
+    },
+    before: &[
+        (Split(0, 1), Done),
+        (Split(0, 1), Done),
+        (DropRest(1, 0), Done),
+        (DropRest(2, 0), Done),
+        (DropRest(0, 0), Done),
+    ],
+    unchanged: &[],
+    call: Some(JoinAll(1)),
+    left: Left {
+        history: &[0; 14],
+        heights: &[2],
+        odometer: &[3],
+        lost: 12,
+    },
+    ..JOIN
+};
+
+// Three rows of one site: the pass of the second takes in that of the third, and has to grow for its count.
+const JOIN_BARE: Trial = Trial {
+    name: "SharedPile::join_bare",
+    start: Start {
+        sides: (1, 3),
+        heights: &[1; 3],
+        quota: 0,
+    },
+    before: &[
+        (SplitRows(0, 1), Done),
+        (SplitRows(0, 1), Done),
+        (IntoBare(0), Done),
+        (IntoBare(1), Done),
+        (IntoBare(0), Done),
+    ],
+    unchanged: &[],
+    call: Some(JoinBare),
+    after: &[(JoinBare, Done)],
+    ending: Ending::SettleRest,
+    left: Left {
+        history: &[],
+        heights: &[1; 3],
+        odometer: &[0; 3],
+        lost: 0,
+    },
+};
+
+const TWO_SITES: Start<'static> = Start {
+    sides: (2, 1),
+    heights: &[4, 4],
+    quota: 0,
+};
+
+const SETTLED: Left<'static> = Left {
+    history: &[],
+    heights: &[1, 1],
+    odometer: &[1, 1],
+    lost: 6,
+};
+
+// Two sites that topple once each.
+const CLOSE: Trial = Trial {
+    name: "SharedPile::close",
+    start: TWO_SITES,
+    before: &[],
+    unchanged: &[(Toppled(0, 0), Number(0)), (Toppled(0, 1), Number(0))],
+    call: None,
+    after: &[],
+    ending: Ending::Close,
+    left: SETTLED,
+};
+
+// Topplings in place stay counted.
+const CLOSE_SWEPT: Trial = Trial {
+    name: "SharedPile::close, after a sweep",
+    before: &[(Sweep(0), Number(2))],
+    unchanged: &[(Toppled(0, 0), Number(1)), (Toppled(0, 1), Number(1))],
+    ..CLOSE
+};
+
+// What the second site gives to the first topples when the pile is settled.
+const SETTLE_SWEPT: Trial = Trial {
+    name: "SharedPile::settle, after a sweep",
+    start: Start {
+        heights: &[3, 4],
+        ..TWO_SITES
+    },
+    before: &[(Sweep(0), Number(1))],
+    unchanged: &[(Toppled(0, 0), Number(0)), (Toppled(0, 1), Number(1))],
+    ending: Ending::Settle,
+    left: Left {
+        heights: &[0, 1],
+        ..SETTLED
+    },
+    ..CLOSE
+};
+
+// Two sites of seven grains.
+const SETTLE_REST: Trial = Trial {
+    name: "SharedPile::settle_rest",
+    start: Start {
+        heights: &[7, 7],
+        ..TWO_SITES
+    },
+    before: &[(IntoBare(0), Done)],
+    unchanged: &[],
+    ending: Ending::SettleRest,
+    left: Left {
+        odometer: &[2, 2],
+        lost: 12,
+        ..SETTLED
+    },
+    ..CLOSE
+};
+
+// Makes the calls after the tested one, and ends the pile.
+fn end(alloc: Global, pile: PileWithPasses, trial: Trial) -> Result<bool, (u32, PileWithPasses)> {
+    match pile.play(alloc, trial.after) {
+        Some(pile) => pile.end(alloc, trial.ending, trial.left),
+        None => Ok(false),
+    }
 }
 
-#[test]
-fn join_reports_out_of_memory(rt: HostRuntime) -> Result<(), Fail> {
-    each_number(
-        &rt,
-        rt.alloc(),
-        "SharedPile::join",
-        Spares::Nothing,
-        join_once,
-    )
-}
-
-// Joins a list with allocation `number` refused; if that fails, joins the passes that came back. Returns the number of
-// the first fault, and whether all are joined.
-fn join_all_again(
+// Makes the tested call, and what follows it with all its memory.
+fn call(
     alloc: Global,
-    number: u32,
-    pile: &SharedPile,
-    pass: &mut Pass,
-    others: Vec<Pass>,
-) -> (Option<u32>, bool)
-    requires pass { IsPassOf pile.now pass.old }
-    requires others { All (IsPassOf pile.now) others.items }
-    ensures { IsPassOf pile.now pass.new }
-{
-    refuse(alloc, number);
-    let tried = pile.join_all(alloc, pass, others);
+    mut pile: PileWithPasses,
+    trial: Trial,
+) -> Result<bool, (u32, PileWithPasses)> {
+    let Some(call) = trial.call else {
+        return end(alloc, pile, trial);
+    };
+    let returned = pile.call(alloc, call);
     was_refused(alloc);
-    match tried {
-        Ok(()) => (None, true),
-        Err((fault, back)) => {
-            let is_joined = pile.join_all(alloc, pass, back).ok().is_some();
-            (Some(fault.number()), is_joined)
+    match returned {
+        Done => end(alloc, pile, trial),
+        Fault(fault) => Err((fault, pile)),
+        _ => {
+            drop(pile);
+            Ok(false)
         }
     }
 }
 
-// A child of quota 1, which has dropped its grain.
-fn dropped_once(alloc: Global, pile: &SharedPile, pass: &mut Pass) -> Result<Pass, Fail>
-    requires pass { IsPassOf pile.now pass.old }
-    requires site { 0 < sites (grid_of_terms pile.now.terms) }
-    ensures of_pile { IsPassOf pile.now pass.new }
-    ensures child { IfOk result (IsPassOf pile.now) }
-{
-    let mut child = pile.split(alloc, pass, 1)?;
-    drop_rest(pile, &mut child, 0);
-    Ok(child)
-}
-
-// A child of a pass that has dropped twelve times, and a list of another child and the pass. Each child has dropped once.
-fn dropped_by_three(alloc: Global) -> Result<(SharedPile, Pass, Vec<Pass>), Fail>
-    ensures { IfOk result (λ r. IsPassOf r.0 r.1 × All (IsPassOf r.0) r.2.items) }
-{
-    let (pile, mut pass) = shared_pile(alloc, 1, 1, &[0], 14)?;
-    let child = dropped_once(alloc, &pile, &mut pass)?;
-    let other = dropped_once(alloc, &pile, &mut pass)?;
-    drop_rest(&pile, &mut pass, 0);
-    let mut list = Vec::with_capacity(alloc, 2)?;
-    list.push_reserved(other);
-    list.push_reserved(pass);
-    Ok((pile, child, list))
-}
-
-// Both passes of a list are joined to a child of quota 1, which has to grow for the receipts of each.
-fn join_all_once(alloc: Global, number: u32) -> Result<Tried, Fail> {
-    let (pile, mut child, list) = dropped_by_three(alloc)?;
-    let (fault, is_joined) = join_all_again(alloc, number, &pile, &mut child, list);
-    let record = closed(alloc, pile, child)?;
-    let is_right = is_joined && is_record(&record, &[0; 14], &[2], &[3], 12);
-    drop(record);
-    Ok(Tried { fault, is_right })
+// One try, which takes the pile out of its place unless it fails.
+fn once(alloc: Global, place: &mut Option<PileWithPasses>, trial: Trial) -> Result<bool, u32> {
+    let Some(pile) = place.take() else {
+        return Ok(false);
+    };
+    let Some(pile) = pile.play(alloc, trial.unchanged) else {
+        return Ok(false);
+    };
+    match call(alloc, pile, trial) {
+        Ok(is_right) => Ok(is_right),
+        Err((fault, pile)) => {
+            *place = Some(pile);
+            Err(fault)
+        }
+    }
 }
 
 #[test]
-fn join_all_reports_out_of_memory(rt: HostRuntime) -> Result<(), Fail> {
-    each_number(
-        &rt,
-        rt.alloc(),
-        "SharedPile::join_all",
-        Spares::Nothing,
-        join_all_once,
-    )
+fn calls_on_a_shared_pile_report_out_of_memory(rt: HostRuntime) -> Result<(), Fail> {
+    for trial in [
+        SPLIT,
+        SPLIT_ROWS,
+        JOIN,
+        JOIN_ALL,
+        JOIN_BARE,
+        CLOSE,
+        CLOSE_SWEPT,
+        SETTLE_SWEPT,
+        SETTLE_REST,
+    ] {
+        each_refused_on(
+            &rt,
+            rt.alloc(),
+            trial.name,
+            Spares::Nothing,
+            |alloc: Global| Ok(PileWithPasses::played(alloc, trial.start, trial.before)),
+            |alloc: Global, place: &mut Option<PileWithPasses>| once(alloc, place, trial),
+        )?;
+    }
+    Ok(())
 }

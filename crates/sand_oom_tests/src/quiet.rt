@@ -1,26 +1,31 @@
 //! Calls that allocate nothing: with every allocation refused they return what they always return, and none was
 //! attempted.
 
-ghost use Rattle.std.specs.Prelude.{◌≡◌, ◌<◌, length, IfOk, IsTrue};
+ghost use Rattle.std.specs.Prelude.{◌≡◌, ◌<◌, [], length, IfOk, IsTrue};
 ghost use Rattle.sand_model.specs.Grid.{sites};
-ghost use Rattle.sand_shared.specs.OpenPile.{grid_of_terms};
 ghost use Rattle.sand_shared.specs.Passes.{IsPassOf};
-ghost use Rattle.sand_shared.specs.Rows.{HoldsSite};
 ghost use Rattle.sand_lab.specs.Reports.{sheet_at};
 
 use crate::group::recurrent;
 use crate::memory::{refuse, was_refused};
-use crate::settling::{full_of_one_thread, is_after_the_drop, is_settled};
+use crate::settling::{full_of_one_thread, is_after_the_drop};
 use sand_desk::{DeskFault, read_pile, status, write_fault};
 use sand_group::GroupFault;
 use sand_lab::{Album, LabFault, Open, Report, Wish};
 use sand_model::{GRAIN_LIMIT, Pile, Shape, topple};
 use sand_settle::{OneFault, OnePile, SettleFault, Settled, settle};
-use sand_shared::{CloseFault, JoinFault, Pass, SharedFault, SharedPile, SiteCounts, SplitFault};
+use sand_shared::{
+    BarePass, CloseFault, JoinFault, SharedFault, SharedPile, SiteCounts, SplitFault,
+};
+use sand_testing::pile_with_passes::Call::{
+    Counts, DropAt, IntoBare, IsWhole, Rows, Sweep, Tally, Toppled,
+};
+use sand_testing::pile_with_passes::Returned::{Between, Done, Fault, Has, Is, Number};
+use sand_testing::pile_with_passes::{PileWithPasses, Start, is_there};
 use sand_testing::piles::{one_site, open_pile};
-use sand_testing::records::is_record;
+use sand_testing::records::{is_record, is_settled};
 use sand_testing::runs::{QUIET, run_into};
-use sand_testing::shared::dropped_on;
+use sand_testing::shared::{bare_of, dropped_on_a_site};
 use std::alloc::{AllocError, Global};
 use std::test::Fail;
 
@@ -42,8 +47,8 @@ fn piles_take_no_memory(rt: HostRuntime) -> Result<(), Fail> {
     assert!(rt; heights.as_slice() == [4, 0].as_slice());
     refuse(alloc, 0);
     let mut pile = Pile::from_vec(shape, heights);
-    let told = (pile.height(0), pile.grains(), pile.is_stable());
-    assert!(rt; pile.shape() == shape && told == (4, 4, false));
+    let actual = (pile.height(0), pile.grains(), pile.is_stable());
+    assert!(rt; pile.shape() == shape && actual == (4, 4, false));
     assert!(rt; topples_once(&mut pile));
     assert!(rt; pile.heights() == [1, 1].as_slice());
     assert!(rt; !was_refused(alloc));
@@ -155,61 +160,66 @@ fn recurrent_piles_take_no_memory(rt: HostRuntime) -> Result<(), Fail> {
     Ok(())
 }
 
-// Whether a pass with one grain left drops it, and no other.
-fn drops_the_last(pile: &SharedPile, pass: &mut Pass) -> bool
-    requires pass { IsPassOf pile.now pass.old }
-    requires site { 1 < sites (grid_of_terms pile.now.terms) }
-    ensures of_pile { IsPassOf pile.now pass.new }
-    ensures grid { pass.new.grid ≡ pass.old.grid }
-    ensures rows { pass.new.rows ≡ pass.old.rows }
-{
-    let is_dropped = pile.drop_at(pass, 1) == Ok(0);
-    let is_refused = pile
-        .drop_at(pass, 1)
-        .is_err_and(|fault| fault.number() == 13);
-    is_dropped && is_refused
-}
-
-// Whether a pass of two sites has dropped a grain and toppled each site once.
-fn has_dropped_and_swept(pass: &Pass) -> bool
-    requires first { HoldsSite pass.now.grid pass.now.rows 0 }
-    requires second { HoldsSite pass.now.grid pass.now.rows 1 }
-{
-    let drops = (pass.left(), pass.seen(), pass.receipts().len());
-    let topplings = (pass.toppled(0), pass.toppled(1));
-    drops == (0, 1, 1) && topplings == (1, 1) && pass.rows() == (0, 2)
-}
-
-// Two rows of four grains, and a pass that has everything.
-fn two_rows(alloc: Global) -> Result<(SharedPile, Pass), Fail>
-    ensures of_pile { IfOk result (λ r. IsPassOf r.0 r.1) }
-    ensures sites { IfOk result (λ r. 1 < sites (grid_of_terms r.0.terms)) }
-    ensures first { IfOk result (λ r. HoldsSite r.1.grid r.1.rows 0) }
-    ensures second { IfOk result (λ r. HoldsSite r.1.grid r.1.rows 1) }
-{
-    let shape = Shape::new(1, 2)?;
-    if shape.width() != 1 || shape.height() != 2 {
-        return Err("two rows".into());
-    }
-    let start = Pile::new(alloc, shape, &[4, 4])?;
-    let made = SharedPile::new(alloc, &start, 1);
-    drop(start);
-    Ok(made?)
-}
-
 #[test]
 fn passes_take_no_memory(rt: HostRuntime) -> Result<(), Fail> {
     let alloc = rt.alloc();
-    let (pile, mut pass) = two_rows(alloc)?;
+    let start = Start {
+        sides: (1, 2),
+        heights: &[4, 4],
+        quota: 1,
+    };
+    let calls = [
+        (IsWhole(0), Is(true)),
+        (DropAt(0, 1), Number(0)),
+        (DropAt(0, 1), Fault(13)),
+        (Tally(0), Number(1)),
+        (Sweep(0), Number(2)),
+        (Counts(0), Has(0, 1, 1)),
+        (Toppled(0, 0), Number(1)),
+        (Toppled(0, 1), Number(1)),
+        (Rows(0), Between(0, 2)),
+        (IsWhole(0), Is(true)),
+        (IntoBare(0), Done),
+    ];
+    let pile = PileWithPasses::played(alloc, start, &[]).ok_or("a shared pile")?;
     refuse(alloc, 0);
-    assert!(rt; pile.is_whole(&pass));
-    assert!(rt; drops_the_last(&pile, &mut pass));
-    assert!(rt; (pile.tally(&mut pass), pile.sweep(&mut pass)) == (1, 2));
-    assert!(rt; has_dropped_and_swept(&pass));
-    assert!(rt; pile.is_whole(&pass));
+    let pile = pile.play(alloc, &calls);
     assert!(rt; !was_refused(alloc));
-    drop((pile, pass));
+    assert!(rt; is_there(pile));
     Ok(())
+}
+
+// Two sites of seven grains without drops, and a bare pass that has everything.
+fn two_sites(alloc: Global) -> Result<(SharedPile, BarePass), Fail>
+    ensures of_pile { IfOk result (λ r. IsPassOf r.0 r.1) }
+    ensures no_drops { IfOk result (λ r. r.1.receipts ≡ []) }
+{
+    let start = open_pile(alloc, 2, 1, &[7, 7])?;
+    let made = SharedPile::new(alloc, &start, 0);
+    drop(start);
+    let (pile, pass) = made?;
+    Ok((pile, bare_of(pass)))
+}
+
+#[test]
+fn a_record_is_completed_without_memory(rt: HostRuntime) -> Result<(), Fail> {
+    let alloc = rt.alloc();
+    let (pile, mut pass) = two_sites(alloc)?;
+    match pile.settle_rest(alloc, &mut pass) {
+        Ok(rest) => {
+            let history = Vec::new(alloc);
+            refuse(alloc, 0);
+            let record = pile.complete(pass, rest, history);
+            assert!(rt; !was_refused(alloc));
+            assert!(rt; is_record(&record, &[], &[1, 1], &[2, 2], 12));
+            drop(record);
+            Ok(())
+        }
+        Err(fault) => {
+            drop((pile, pass));
+            Err(fault.into())
+        }
+    }
 }
 
 #[test]
@@ -234,10 +244,7 @@ fn lists_of_drops_take_no_memory(rt: HostRuntime) -> Result<(), Fail> {
 #[test]
 fn records_take_no_memory(rt: HostRuntime) -> Result<(), Fail> {
     let alloc = rt.alloc();
-    let start = one_site(alloc, 3)?;
-    let dropped = dropped_on(alloc, &start, 1);
-    drop(start);
-    let record = dropped?;
+    let record = dropped_on_a_site(alloc, 3, 1)?;
     assert!(rt; record.start().shape().sites() == 1);
     refuse(alloc, 0);
     assert!(rt; record.start().heights() == [3].as_slice() && record.odometer(0) == 1);

@@ -1,46 +1,17 @@
 //! Records: copied, shared, and extended by the next one.
 
-ghost use Rattle.std.specs.Prelude.{◌≡◌, ◌+◌, ◌≤◌, length, sum, IfOk, OnErr};
-ghost use Rattle.sand_model.specs.Piles.{most_grains};
-
 use crate::memory::{refuse, was_refused};
-use crate::trying::{MEMORY, Spares, Tried, came_to, each_number, each_refused};
+use crate::trying::{MEMORY, Spares, each_refused, each_refused_on, outcome};
 use sand_shared::Record;
-use sand_testing::piles::one_site;
-use sand_testing::records::{are_within_limit, is_record};
-use sand_testing::shared::dropped_on;
+use sand_testing::records::{is_record, may_follow};
+use sand_testing::shared::{dropped_on, dropped_on_a_site};
 use std::alloc::Global;
 use std::test::Fail;
 
-// Three drops on an empty site.
-fn three_drops(alloc: Global) -> Result<Record, Fail> {
-    let start = one_site(alloc, 0)?;
-    let three = dropped_on(alloc, &start, 3);
-    drop(start);
-    three
-}
-
-// One more drop, which topples the site.
-fn one_more(alloc: Global, three: &Record) -> Result<Record, Fail>
-    ensures follows { IfOk result (λ r. r.start ≡ three.now.settled.pile) }
-    ensures limit { IfOk result (λ r.
-        sum three.now.start.heights + (length three.now.history + length r.history) ≤ most_grains) }
-{
-    let one = dropped_on(alloc, three.pile(), 1)?;
-    if !are_within_limit(three, &one) {
-        drop(one);
-        return Err("too many grains".into());
-    }
-    Ok(one)
-}
-
 // Three drops on an empty site, then one that topples it.
-fn three_and_one(alloc: Global) -> Result<(Record, Record), Fail>
-    ensures follows { IfOk result (λ r. r.1.start ≡ r.0.settled.pile) }
-    ensures limit { IfOk result (λ r. sum r.0.start.heights + (length r.0.history + length r.1.history) ≤ most_grains) }
-{
-    let three = three_drops(alloc)?;
-    match one_more(alloc, &three) {
+fn three_and_one(alloc: Global) -> Result<(Record, Record), Fail> {
+    let three = dropped_on_a_site(alloc, 0, 3)?;
+    match dropped_on(alloc, three.pile(), 1) {
         Ok(one) => Ok((three, one)),
         Err(fault) => {
             drop(three);
@@ -64,62 +35,71 @@ fn is_four(record: &Record) -> bool {
     is_record(record, &[0; 4], &[0], &[1], 4)
 }
 
-fn was_four(record: Record) -> bool {
-    let is_right = is_four(&record);
-    drop(record);
-    is_right
-}
-
 #[test]
 fn copy_of_a_record_reports_out_of_memory(rt: HostRuntime) -> Result<(), Fail> {
-    let three = three_drops(rt.alloc())?;
-    let told = each_refused(
+    let three = dropped_on_a_site(rt.alloc(), 0, 3)?;
+    let tried = each_refused(
         &rt,
         rt.alloc(),
         "Record::copy",
-        |alloc: Global| came_to!(three.copy(alloc), copy => was_three(copy)),
+        |alloc: Global| outcome!(three.copy(alloc), copy => was_three(copy)),
     );
     drop(three);
-    told
+    tried
+}
+
+// A record of three drops, followed by one of one drop. Returns whether that is right, or the number of the fault.
+fn follow(alloc: Global, three: &Record, one: &Record) -> Result<bool, u32> {
+    if !may_follow(three, one) {
+        return Ok(false);
+    }
+    match three.followed_by(alloc, one) {
+        Ok(four) => {
+            let is_right = is_four(&four);
+            drop(four);
+            Ok(is_right)
+        }
+        Err(fault) => Err(fault.number()),
+    }
 }
 
 #[test]
 fn followed_by_reports_out_of_memory(rt: HostRuntime) -> Result<(), Fail> {
     let (three, one) = three_and_one(rt.alloc())?;
-    let told = each_refused(
+    let tried = each_refused(
         &rt,
         rt.alloc(),
         "Record::followed_by",
-        |alloc: Global| came_to!(three.followed_by(alloc, &one), four => was_four(four)),
+        |alloc: Global| follow(alloc, &three, &one),
     );
     drop((three, one));
-    told
+    tried
 }
 
-// After a failed call the record is gone.
+// Makes two records of one. If that fails, the record is gone.
+fn twice(alloc: Global, record: &mut Option<Record>) -> Result<bool, u32> {
+    let Some(three) = record.take() else {
+        return Ok(true);
+    };
+    match three.twice(alloc) {
+        Ok((first, second)) => {
+            let are_right = (was_three(first), was_three(second));
+            Ok(are_right == (true, true))
+        }
+        Err(_) => Err(MEMORY),
+    }
+}
+
 #[test]
 fn twice_reports_out_of_memory(rt: HostRuntime) -> Result<(), Fail> {
-    each_number(
+    each_refused_on(
         &rt,
         rt.alloc(),
         "Record::twice",
         Spares::Nothing,
-        twice_once,
+        |alloc: Global| Ok(Some(dropped_on_a_site(alloc, 0, 3)?)),
+        twice,
     )
-}
-
-fn twice_once(alloc: Global, number: u32) -> Result<Tried, Fail> {
-    let three = three_drops(alloc)?;
-    refuse(alloc, number);
-    let tried = three.twice(alloc);
-    was_refused(alloc);
-    match tried {
-        Ok((first, second)) => {
-            let (is_first, is_second) = (was_three(first), was_three(second));
-            Ok(Tried::done(is_first && is_second))
-        }
-        Err(_) => Ok(Tried::failed(MEMORY, true)),
-    }
 }
 
 // Whether a record of three drops is copied in three allocations: two lists of heights and an odometer.
@@ -139,7 +119,7 @@ fn is_copied_without_history(alloc: Global, three: &Record) -> bool {
 #[test]
 fn two_records_share_their_history(rt: HostRuntime) -> Result<(), Fail> {
     let alloc = rt.alloc();
-    let three = three_drops(alloc)?;
+    let three = dropped_on_a_site(alloc, 0, 3)?;
     refuse(alloc, 5);
     let made = three.twice(alloc);
     assert!(rt; !was_refused(alloc));
@@ -151,45 +131,27 @@ fn two_records_share_their_history(rt: HostRuntime) -> Result<(), Fail> {
     Ok(())
 }
 
-// Appends a record to one of three drops. Returns whether the result is right, or the number of the fault.
-fn append(alloc: Global, three: &mut Record, one: &Record) -> Result<bool, u32>
-    requires follows { one.now.start ≡ three.old.settled.pile }
-    requires limit { sum three.old.start.heights + (length three.old.history + length one.now.history) ≤ most_grains }
-    ensures { OnErr result (three.new ≡ three.old) }
-{
+// A record of three drops that is to grow, the one to be appended, and another record of the three drops.
+type Growing = (Record, Record, Record);
+
+// Appends to a record of three drops. Returns whether it is right and the other one unchanged, or the number of the
+// fault.
+fn append(alloc: Global, records: &mut Growing) -> Result<bool, u32> {
+    let (three, one, other) = records;
+    if !is_three(three) || !may_follow(three, one) {
+        return Ok(false);
+    }
     match three.append(alloc, one) {
-        Ok(()) => Ok(is_four(three)),
+        Ok(()) => Ok(is_four(three) && is_three(other)),
         Err(fault) => Err(fault.number()),
     }
 }
 
-// Appends a record with allocation `number` refused; if that fails, appends it again.
-fn append_again(alloc: Global, number: u32, three: &mut Record, one: &Record) -> Tried
-    requires follows { one.now.start ≡ three.old.settled.pile }
-    requires limit { sum three.old.start.heights + (length three.old.history + length one.now.history) ≤ most_grains }
-{
-    refuse(alloc, number);
-    let tried = append(alloc, three, one);
-    was_refused(alloc);
-    match tried {
-        Ok(is_right) => Tried::done(is_right),
-        Err(fault) => {
-            let is_unchanged = is_three(three);
-            Tried::failed(fault, append(alloc, three, one) == Ok(true) && is_unchanged)
-        }
-    }
-}
-
-// The record shares its history with another, and keeps its own drops there if it cannot grow.
-fn append_once(alloc: Global, number: u32) -> Result<Tried, Fail> {
+// Both records of three drops have the same history.
+fn shared(alloc: Global) -> Result<Growing, Fail> {
     let (three, one) = three_and_one(alloc)?;
     match three.twice(alloc) {
-        Ok((mut three, shared)) => {
-            let tried = append_again(alloc, number, &mut three, &one);
-            drop((three, one));
-            let is_right = was_three(shared) && tried.is_right;
-            Ok(Tried { is_right, ..tried })
-        }
+        Ok((three, other)) => Ok((three, one, other)),
         Err(fault) => {
             drop(one);
             Err(fault.into())
@@ -199,27 +161,23 @@ fn append_once(alloc: Global, number: u32) -> Result<Tried, Fail> {
 
 #[test]
 fn append_to_a_shared_history_reports_out_of_memory(rt: HostRuntime) -> Result<(), Fail> {
-    each_number(
+    each_refused_on(
         &rt,
         rt.alloc(),
         "Record::append",
         Spares::Nothing,
-        append_once,
+        shared,
+        append,
     )
 }
 
-// Three drops on an empty site, with room for one more, and that one.
-fn roomy_three_and_one(alloc: Global) -> Result<(Record, Record), Fail>
-    ensures follows { IfOk result (λ r. r.1.start ≡ r.0.settled.pile) }
-    ensures limit { IfOk result (λ r. sum r.0.start.heights + (length r.0.history + length r.1.history) ≤ most_grains) }
-{
+// The record that is to grow has room for one more drop.
+fn roomy(alloc: Global) -> Result<Growing, Fail> {
     let (three, one) = three_and_one(alloc)?;
-    let roomy = three.copy_with_room(alloc, 1);
-    drop(three);
-    match roomy {
-        Ok(roomy) => Ok((roomy, one)),
+    match three.copy_with_room(alloc, 1) {
+        Ok(roomy) => Ok((roomy, one, three)),
         Err(fault) => {
-            drop(one);
+            drop((three, one));
             Err(fault.into())
         }
     }
@@ -229,11 +187,11 @@ fn roomy_three_and_one(alloc: Global) -> Result<(Record, Record), Fail>
 #[test]
 fn drops_with_room_are_appended_without_memory(rt: HostRuntime) -> Result<(), Fail> {
     let alloc = rt.alloc();
-    let (mut three, one) = roomy_three_and_one(alloc)?;
+    let mut records = roomy(alloc)?;
     refuse(alloc, 3);
-    let tried = append(alloc, &mut three, &one);
+    let outcome = append(alloc, &mut records);
     assert!(rt; !was_refused(alloc));
-    assert!(rt; tried == Ok(true));
-    drop((three, one));
+    drop(records);
+    assert!(rt; outcome == Ok(true));
     Ok(())
 }

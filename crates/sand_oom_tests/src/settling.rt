@@ -1,30 +1,25 @@
 //! Settling, and the single-threaded pile.
 
-use crate::memory::{refuse, was_refused};
 use crate::piles::full;
-use crate::trying::{Spares, Tried, came_to, each_number, each_refused};
+use crate::trying::{Spares, each_refused, each_refused_on, outcome};
 use sand_model::Pile;
-use sand_settle::{Avalanche, OnePile, Settled, settle};
+use sand_settle::{Avalanche, OnePile, settle};
 use sand_testing::piles::open_pile;
+use sand_testing::records::is_settled;
 use std::alloc::Global;
 use std::test::Fail;
-
-/// Whether a settled pile has these heights, this odometer and this number of lost grains.
-pub fn is_settled(settled: &Settled, heights: &[u64], odometer: &[u64], lost: u64) -> bool {
-    settled.pile().heights() == heights && settled.odometers() == odometer && settled.lost() == lost
-}
 
 #[test]
 fn settle_reports_out_of_memory(rt: HostRuntime) -> Result<(), Fail> {
     let pile = open_pile(rt.alloc(), 2, 1, &[4, 4])?;
-    let told = each_refused(
+    let tried = each_refused(
         &rt,
         rt.alloc(),
         "settle",
-        |alloc: Global| came_to!(settle(alloc, &pile), settled => is_settled(&settled, &[1, 1], &[1, 1], 6)),
+        |alloc: Global| outcome!(settle(alloc, &pile), settled => is_settled(&settled, &[1, 1], &[1, 1], 6)),
     );
     drop(pile);
-    told
+    tried
 }
 
 // A pile that is high in the middle, from a list that the proofs need not examine place by place.
@@ -38,15 +33,15 @@ fn heap(alloc: Global) -> Result<Pile, Fail> {
 #[test]
 fn settle_by_a_guess_reports_out_of_memory(rt: HostRuntime) -> Result<(), Fail> {
     let pile = heap(rt.alloc())?;
-    let told = each_refused(
+    let tried = each_refused(
         &rt,
         rt.alloc(),
         "settle, by a guess",
-        |alloc: Global| came_to!(settle(alloc, &pile), settled =>
+        |alloc: Global| outcome!(settle(alloc, &pile), settled =>
             settled.pile().grains().wrapping_add(settled.lost()) == 100_000),
     );
     drop(pile);
-    told
+    tried
 }
 
 fn is_one_pile(one: &OnePile, tally: u64, heights: &[u64], odometer: &[u64], lost: u64) -> bool {
@@ -58,14 +53,14 @@ fn is_one_pile(one: &OnePile, tally: u64, heights: &[u64], odometer: &[u64], los
 #[test]
 fn new_one_pile_reports_out_of_memory(rt: HostRuntime) -> Result<(), Fail> {
     let pile = open_pile(rt.alloc(), 2, 1, &[4, 4])?;
-    let told = each_refused(
+    let tried = each_refused(
         &rt,
         rt.alloc(),
         "OnePile::new",
-        |alloc: Global| came_to!(OnePile::new(alloc, &pile), one => is_of_the_two(one)),
+        |alloc: Global| outcome!(OnePile::new(alloc, &pile), one => is_of_the_two(one)),
     );
     drop(pile);
-    told
+    tried
 }
 
 // Whether two sites of four grains have settled.
@@ -99,9 +94,10 @@ pub fn full_of_one_thread(alloc: Global) -> Result<OnePile, Fail> {
     Ok(one?)
 }
 
-// Drops in the middle. Returns whether the drop and the pile after it are right, or the number of the fault.
+// Drops in the middle, if nothing was dropped before. Returns whether the drop and the pile after it are right, or the
+// number of the fault.
 fn drop_in_the_middle(alloc: Global, one: &mut OnePile) -> Result<bool, u32> {
-    if one.pile().shape().sites() <= 4 {
+    if one.pile().shape().sites() <= 4 || !is_one_pile(one, 0, &[3; 9], &[0; 9], 0) {
         return Ok(false);
     }
     match one.drop_at(alloc, 4) {
@@ -112,30 +108,14 @@ fn drop_in_the_middle(alloc: Global, one: &mut OnePile) -> Result<bool, u32> {
     }
 }
 
-fn drop_once(alloc: Global, number: u32) -> Result<Tried, Fail> {
-    let mut one = full_of_one_thread(alloc)?;
-    refuse(alloc, number);
-    let tried = drop_in_the_middle(alloc, &mut one);
-    was_refused(alloc);
-    let tried = match tried {
-        Ok(is_right) => Tried::done(is_right),
-        Err(fault) => {
-            let is_unchanged = is_one_pile(&one, 0, &[3; 9], &[0; 9], 0);
-            let is_right = drop_in_the_middle(alloc, &mut one) == Ok(true);
-            Tried::failed(fault, is_unchanged && is_right)
-        }
-    };
-    drop(one);
-    Ok(tried)
-}
-
 #[test]
 fn drop_at_reports_out_of_memory(rt: HostRuntime) -> Result<(), Fail> {
-    each_number(
+    each_refused_on(
         &rt,
         rt.alloc(),
         "OnePile::drop_at",
         Spares::Nothing,
-        drop_once,
+        full_of_one_thread,
+        drop_in_the_middle,
     )
 }

@@ -1,7 +1,7 @@
 //! Texts that are read, and texts that are written.
 
 use crate::piles::full;
-use crate::trying::{came_to, each_refused};
+use crate::trying::{each_refused, outcome};
 use sand_desk::{
     burn_text, pgm_text, pile_text, read_drops, read_pile, read_two, settle_text, table_text,
 };
@@ -15,7 +15,7 @@ use std::test::Fail;
 #[test]
 fn read_pile_reports_out_of_memory(rt: HostRuntime) -> Result<(), Fail> {
     each_refused(&rt, rt.alloc(), "read_pile", |alloc: Global| {
-        came_to!(read_pile(alloc, b"3 1\n0 4 0\n"), pile => pile.heights() == [0, 4, 0].as_slice())
+        outcome!(read_pile(alloc, b"3 1\n0 4 0\n"), pile => pile.heights() == [0, 4, 0].as_slice())
     })
 }
 
@@ -26,7 +26,7 @@ fn is_two(piles: &(Pile, Pile)) -> bool {
 #[test]
 fn read_two_reports_out_of_memory(rt: HostRuntime) -> Result<(), Fail> {
     each_refused(&rt, rt.alloc(), "read_two", |alloc: Global| {
-        came_to!(read_two(alloc, b"2 1\n3 1\n2 1\n3 3\n"), piles => is_two(&piles))
+        outcome!(read_two(alloc, b"2 1\n3 1\n2 1\n3 3\n"), piles => is_two(&piles))
     })
 }
 
@@ -37,7 +37,7 @@ fn is_drops(read: &(Pile, Vec<usize>)) -> bool {
 #[test]
 fn read_drops_reports_out_of_memory(rt: HostRuntime) -> Result<(), Fail> {
     each_refused(&rt, rt.alloc(), "read_drops", |alloc: Global| {
-        came_to!(read_drops(alloc, b"2 1\n3 1\n1 0 1\n"), read => is_drops(&read))
+        outcome!(read_drops(alloc, b"2 1\n3 1\n1 0 1\n"), read => is_drops(&read))
     })
 }
 
@@ -45,7 +45,7 @@ fn read_drops_reports_out_of_memory(rt: HostRuntime) -> Result<(), Fail> {
 fn pile_text_reports_out_of_memory(rt: HostRuntime) -> Result<(), Fail> {
     let pile = full(rt.alloc())?;
     each_refused(&rt, rt.alloc(), "pile_text", |alloc: Global| {
-        came_to!(pile_text(alloc, &pile), text => text.as_slice() == b"3 3\n3 3 3\n3 3 3\n3 3 3\n".as_slice())
+        outcome!(pile_text(alloc, &pile), text => text.as_slice() == b"3 3\n3 3 3\n3 3 3\n3 3 3\n".as_slice())
     })
 }
 
@@ -54,7 +54,7 @@ fn settle_text_reports_out_of_memory(rt: HostRuntime) -> Result<(), Fail> {
     let start = open_pile(rt.alloc(), 3, 1, &[0, 4, 0])?;
     let settled = settle(rt.alloc(), &start)?;
     each_refused(&rt, rt.alloc(), "settle_text", |alloc: Global| {
-        came_to!(settle_text(alloc, &settled), text =>
+        outcome!(settle_text(alloc, &settled), text =>
             text.as_slice() == b"3 1\n1 0 1\nodometer\n0 1 0\nlost 2\ntopplings 1\n".as_slice())
     })
 }
@@ -64,7 +64,7 @@ fn pgm_text_reports_out_of_memory(rt: HostRuntime) -> Result<(), Fail> {
     let pile = full(rt.alloc())?;
     assert!(rt; pile.is_stable());
     each_refused(&rt, rt.alloc(), "pgm_text", |alloc: Global| {
-        came_to!(pgm_text(alloc, &pile), text => text.as_slice() == b"P2\n3 3\n3\n3 3 3\n3 3 3\n3 3 3\n".as_slice())
+        outcome!(pgm_text(alloc, &pile), text => text.as_slice() == b"P2\n3 3\n3\n3 3 3\n3 3 3\n3 3 3\n".as_slice())
     })
 }
 
@@ -73,7 +73,7 @@ fn burn_text_reports_out_of_memory(rt: HostRuntime) -> Result<(), Fail> {
     let pile = open_pile(rt.alloc(), 3, 1, &[0, 0, 3])?;
     let burned = burn(rt.alloc(), &pile)?;
     each_refused(&rt, rt.alloc(), "burn_text", |alloc: Global| {
-        came_to!(burn_text(alloc, pile.shape(), &burned), text =>
+        outcome!(burn_text(alloc, pile.shape(), &burned), text =>
             text.as_slice() == b"forbidden 2\n0 0\n1 0\n".as_slice())
     })
 }
@@ -89,7 +89,7 @@ fn table_text_reports_out_of_memory(rt: HostRuntime) -> Result<(), Fail> {
     };
     let rows = [(0, avalanche)];
     each_refused(&rt, rt.alloc(), "table_text", |alloc: Global| {
-        came_to!(table_text(alloc, rows.as_slice()), text =>
+        outcome!(table_text(alloc, rows.as_slice()), text =>
             text.as_slice() == b"number site size area reach lost\n0 4 10 9 2 12\n".as_slice())
     })
 }

@@ -6,6 +6,7 @@ ghost use Rattle.sand_model.specs.Grid.{sites};
 ghost use Rattle.sand_shared.specs.OpenPile.{grid_of_terms};
 ghost use Rattle.sand_shared.specs.Passes.{IsPassOf};
 
+use crate::piles::one_site;
 use sand_model::{Pile, Shape};
 use sand_shared::{BarePass, Pass, Record, SharedPile};
 use std::alloc::Global;
@@ -69,4 +70,12 @@ pub fn dropped_on(alloc: Global, start: &Pile, drops: u64) -> Result<Record, Fai
     drop_rest(&pile, &mut pass, 0);
     let record = pile.close(alloc, pass).ok().ok_or("close")?;
     Ok(record)
+}
+
+/// The record of drops on one site of this height.
+pub fn dropped_on_a_site(alloc: Global, height: u64, drops: u64) -> Result<Record, Fail> {
+    let start = one_site(alloc, height)?;
+    let record = dropped_on(alloc, &start, drops);
+    drop(start);
+    record
 }

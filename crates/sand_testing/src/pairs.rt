@@ -7,8 +7,8 @@ ghost use Rattle.sand_shared.specs.OpenPile.{grid_of_terms};
 ghost use Rattle.sand_shared.specs.Passes.{IsPassOf};
 
 use crate::meeting::Meeting;
+use crate::shared::drop_rest;
 use sand_shared::{Pass, SharedPile};
-use sand_testing::shared::drop_rest;
 use std::thread::{Threads, join};
 
 // Meets the other thread; then makes all remaining drops at a site, or sweeps if none is given. Also returns how often

@@ -1,0 +1,624 @@
+//! A shared pile with its passes in a list, on which a test makes calls from a table, each with its expected result.
+//!
+//! The calls are named after the calls of `sand_shared` that they make. They ensure nothing, because a test compares
+//! results, and require nothing, because the list is known to hold passes of this pile. So the proof of a test is
+//! short: a table and one call.
+
+ghost use Rattle.std.specs.Prelude.{◌≡◌, ◌<◌, [], All, IsTrue, IfOk, IfSome};
+ghost use Rattle.sand_model.specs.Grid.{sites};
+ghost use Rattle.sand_shared.specs.Passes.{IsPassOf};
+
+use crate::pairs::both_at_once;
+use crate::records::{is_record, is_settled};
+use crate::shared::{bare_of, drop_rest};
+use sand_model::{Pile, Shape};
+use sand_shared::{BarePass, Pass, Record, SharedPile};
+use std::alloc::Global;
+use std::marker::Model;
+use std::thread::Threads;
+
+/// A call. It names passes by their position in the list, and sites by their numbers.
+#[derive(Clone, Copy)]
+pub enum Call {
+    DropAt(usize, usize),
+    /// Makes all remaining drops of a pass at a site.
+    DropRest(usize, usize),
+    Tally(usize),
+    Sweep(usize),
+    /// Gives a quota to a child, which is appended to the list.
+    Split(usize, u64),
+    /// Gives rows to a child, which is appended to the list.
+    SplitRows(usize, u16),
+    /// The first pass takes in the other, which leaves the list unless that fails.
+    Join(usize, usize),
+    /// A pass takes in all others, which leave the list as far as they are joined.
+    JoinAll(usize),
+    ThrowAway(usize),
+    /// Makes a pass bare. It leaves the list for the end of another, that of the bare passes.
+    IntoBare(usize),
+    /// The last bare pass but one takes in the last.
+    JoinBare,
+    IsWhole(usize),
+    /// The quota and the drops of a pass.
+    Counts(usize),
+    Rows(usize),
+    /// The receipt of a pass at a place.
+    Receipt(usize, usize),
+    /// How often a pass has toppled a site of its rows.
+    Toppled(usize, usize),
+}
+
+/// What a call returns.
+#[derive(Clone, Copy, Debug, PartialEq, Eq)]
+pub enum Returned {
+    Done,
+    Number(u64),
+    Fault(u32),
+    Is(bool),
+    /// The first row and one past the last.
+    Between(u16, u16),
+    /// A drop's number and its site.
+    Dropped(u64, usize),
+    /// The remaining quota of a pass, its number of receipts, and how many drops it has seen.
+    Has(u64, usize, u64),
+    /// The test names a pass, a receipt or a site that does not exist.
+    NoSuch,
+}
+
+/// The ways to end a shared pile. The first two leave the same record.
+#[derive(Clone, Copy)]
+pub enum Ending {
+    Close,
+    Settle,
+    /// Settles what is left with the last bare pass; its history is not written.
+    SettleRest,
+}
+
+pub const ENDINGS: [Ending; 2] = [Ending::Close, Ending::Settle];
+
+/// A start on a grid with open edges, and a quota.
+#[derive(Clone, Copy)]
+pub struct Start<'a> {
+    pub sides: (usize, usize),
+    pub heights: &'a [u64],
+    pub quota: u64,
+}
+
+/// The expected contents of a record.
+#[derive(Clone, Copy)]
+pub struct Left<'a> {
+    pub history: &'a [usize],
+    pub heights: &'a [u64],
+    pub odometer: &'a [u64],
+    pub lost: u64,
+}
+
+const NOTHING: Left<'static> = Left {
+    history: &[],
+    heights: &[],
+    odometer: &[],
+    lost: 0,
+};
+
+// Whether a site is in the grid, if there is one.
+fn is_inside(shape: Shape, site: Option<usize>) -> bool
+    ensures { IsTrue result → IfSome site (λ s. s < sites shape) }
+{
+    match site {
+        Some(site) => site < shape.sites(),
+        None => true,
+    }
+}
+
+// Takes a pass out of a list.
+fn take(_pile: &SharedPile, passes: &mut Vec<Pass>, place: usize) -> Option<Pass>
+    requires { All (IsPassOf _pile.now) passes.old.items }
+    ensures pass { IfSome result (IsPassOf _pile.now) }
+    ensures rest { All (IsPassOf _pile.now) passes.new.items }
+{
+    if place >= passes.len() {
+        return None;
+    }
+    Some(passes.remove(place))
+}
+
+// Takes the first two passes out of a list.
+fn take_two(_pile: &SharedPile, passes: &mut Vec<Pass>) -> Option<(Pass, Pass)>
+    requires { All (IsPassOf _pile.now) passes.old.items }
+    ensures passes { IfSome result (λ r. IsPassOf _pile.now r.0 × IsPassOf _pile.now r.1) }
+    ensures rest { All (IsPassOf _pile.now) passes.new.items }
+{
+    let other = take(_pile, passes, 1)?;
+    match take(_pile, passes, 0) {
+        Some(one) => Some((one, other)),
+        None => {
+            drop(other);
+            None
+        }
+    }
+}
+
+// Inserts a pass into a list, if there is room.
+fn put(_pile: &SharedPile, passes: &mut Vec<Pass>, place: usize, pass: Pass)
+    requires passes { All (IsPassOf _pile.now) passes.old.items }
+    requires pass { IsPassOf _pile.now pass }
+    ensures { All (IsPassOf _pile.now) passes.new.items }
+{
+    if place <= passes.len() {
+        let _ = passes.insert(place, pass);
+    }
+}
+
+// Takes the last pass out of a list of bare ones.
+fn take_bare(_pile: &SharedPile, passes: &mut Vec<BarePass>) -> Option<BarePass>
+    requires { All (IsPassOf _pile.now) passes.old.items }
+    ensures pass { IfSome result (IsPassOf _pile.now) }
+    ensures rest { All (IsPassOf _pile.now) passes.new.items }
+{
+    passes.pop()
+}
+
+// Appends a pass to a list of bare ones, if there is room.
+fn put_bare(_pile: &SharedPile, passes: &mut Vec<BarePass>, pass: BarePass)
+    requires passes { All (IsPassOf _pile.now) passes.old.items }
+    requires pass { IsPassOf _pile.now pass }
+    ensures { All (IsPassOf _pile.now) passes.new.items }
+{
+    let _ = passes.push(pass);
+}
+
+// More passes than a test has, so that a list of passes does not grow.
+const ROOM: usize = 8;
+
+// An empty list that does not grow.
+fn list<T: Drop>(alloc: Global) -> Result<Vec<T>, u32>
+    ensures { IfOk result (λ v. v.items ≡ []) }
+{
+    Vec::with_capacity(alloc, ROOM).map_err(|_| 4)
+}
+
+/// A shared pile and its passes. The first pass is at index 0. Calls allocate only what the shared pile does.
+#[derive(Drop)]
+pub struct PileWithPasses {
+    shape: Shape,
+    pile: SharedPile,
+    passes: Vec<Pass>,
+    // The list after a `JoinAll`, which takes the other one.
+    spare: Vec<Pass>,
+    bare: Vec<BarePass>,
+}
+
+impl Model for PileWithPasses {
+    ghost use Rattle.std.specs.Prelude.{◌≡◌, All};
+    ghost use Rattle.sand_shared.specs.OpenPile.{grid_of_terms};
+    ghost use Rattle.sand_shared.specs.Passes.{IsPassOf};
+
+    ghost Value = { Unit {0} };
+
+    ghost view = { λ _. tt };
+
+    ghost invariant = { λ p. (p.shape ≡ grid_of_terms p.pile.terms) × All (λ q. IsPassOf p.pile q) p.passes.items
+        × All (λ q. IsPassOf p.pile q) p.spare.items × All (λ q. IsPassOf p.pile q) p.bare.items };
+}
+
+impl PileWithPasses {
+    /// A shared pile with this start, or the number of the fault.
+    pub fn of_start(alloc: Global, start: &Pile, quota: u64) -> Result<PileWithPasses, u32> {
+        let (mut passes, spare, bare) = (list(alloc)?, list(alloc)?, list(alloc)?);
+        let (pile, pass) = match SharedPile::new(alloc, start, quota) {
+            Ok(made) => made,
+            Err(fault) => return Err(fault.number()),
+        };
+        put(&pile, &mut passes, 0, pass);
+        Ok(PileWithPasses {
+            shape: start.shape(),
+            pile,
+            passes,
+            spare,
+            bare,
+        })
+    }
+
+    /// A shared pile with this start, if these calls return what is expected.
+    pub fn played(
+        alloc: Global,
+        start: Start<'_>,
+        calls: &[(Call, Returned)],
+    ) -> Option<PileWithPasses> {
+        let (width, height) = start.sides;
+        let shape = Shape::new(width, height).ok()?;
+        let heights = Pile::new(alloc, shape, start.heights).ok()?;
+        let pile = PileWithPasses::of_start(alloc, &heights, start.quota).ok();
+        drop(heights);
+        pile?.play(alloc, calls)
+    }
+
+    /// The pile, if these calls return what is expected.
+    pub fn play(mut self, alloc: Global, calls: &[(Call, Returned)]) -> Option<PileWithPasses> {
+        for (call, expected) in calls {
+            if self.call(alloc, *call) != *expected {
+                drop(self);
+                return None;
+            }
+        }
+        Some(self)
+    }
+
+    pub fn call(&mut self, alloc: Global, call: Call) -> Returned {
+        match call {
+            Call::DropAt(pass, site) => self.drop_at(pass, site),
+            Call::DropRest(pass, site) => self.drop_rest(pass, site),
+            Call::Tally(pass) => self.tally(pass),
+            Call::Sweep(pass) => self.sweep(pass),
+            Call::Split(pass, quota) => self.split(alloc, pass, quota),
+            Call::SplitRows(pass, rows) => self.split_rows(alloc, pass, rows),
+            Call::Join(pass, other) => self.join(alloc, pass, other),
+            Call::JoinAll(pass) => self.join_all(alloc, pass),
+            Call::ThrowAway(pass) => self.throw_away(pass),
+            Call::IntoBare(pass) => self.into_bare(pass),
+            Call::JoinBare => self.join_bare(alloc),
+            Call::Counts(pass) => self.counts(pass),
+            Call::IsWhole(pass) => self.is_whole(pass),
+            Call::Rows(pass) => self.rows(pass),
+            Call::Receipt(pass, place) => self.receipt(pass, place),
+            Call::Toppled(pass, site) => self.toppled(pass, site),
+        }
+    }
+
+    fn drop_at(&mut self, pass: usize, site: usize) -> Returned {
+        if pass >= self.passes.len() || site >= self.shape.sites() {
+            return Returned::NoSuch;
+        }
+        match self.pile.drop_at(&mut self.passes[pass], site) {
+            Ok(number) => Returned::Number(number),
+            Err(fault) => Returned::Fault(fault.number()),
+        }
+    }
+
+    fn drop_rest(&mut self, pass: usize, site: usize) -> Returned {
+        if pass >= self.passes.len() || site >= self.shape.sites() {
+            return Returned::NoSuch;
+        }
+        drop_rest(&self.pile, &mut self.passes[pass], site);
+        Returned::Done
+    }
+
+    fn tally(&mut self, pass: usize) -> Returned {
+        if pass >= self.passes.len() {
+            return Returned::NoSuch;
+        }
+        Returned::Number(self.pile.tally(&mut self.passes[pass]))
+    }
+
+    fn sweep(&mut self, pass: usize) -> Returned {
+        if pass >= self.passes.len() {
+            return Returned::NoSuch;
+        }
+        Returned::Number(self.pile.sweep(&mut self.passes[pass]))
+    }
+
+    fn split(&mut self, alloc: Global, pass: usize, quota: u64) -> Returned {
+        if pass >= self.passes.len() {
+            return Returned::NoSuch;
+        }
+        match self.pile.split(alloc, &mut self.passes[pass], quota) {
+            Ok(child) => {
+                let end = self.passes.len();
+                put(&self.pile, &mut self.passes, end, child);
+                Returned::Done
+            }
+            Err(fault) => Returned::Fault(fault.number()),
+        }
+    }
+
+    fn split_rows(&mut self, alloc: Global, pass: usize, rows: u16) -> Returned {
+        if pass >= self.passes.len() {
+            return Returned::NoSuch;
+        }
+        match self.pile.split_rows(alloc, &mut self.passes[pass], rows) {
+            Ok(child) => {
+                let end = self.passes.len();
+                put(&self.pile, &mut self.passes, end, child);
+                Returned::Done
+            }
+            Err(fault) => Returned::Fault(fault.number()),
+        }
+    }
+
+    fn join(&mut self, alloc: Global, pass: usize, other: usize) -> Returned {
+        if pass == other {
+            return Returned::NoSuch;
+        }
+        let Some(second) = take(&self.pile, &mut self.passes, other) else {
+            return Returned::NoSuch;
+        };
+        let place = pass.saturating_sub(usize::from(other < pass));
+        let Some(mut first) = take(&self.pile, &mut self.passes, place) else {
+            drop(second);
+            return Returned::NoSuch;
+        };
+        let refused = self.pile.join(alloc, &mut first, second).err();
+        put(&self.pile, &mut self.passes, place, first);
+        let Some((fault, second)) = refused else {
+            return Returned::Done;
+        };
+        put(&self.pile, &mut self.passes, other, second);
+        Returned::Fault(fault.number())
+    }
+
+    fn join_all(&mut self, alloc: Global, pass: usize) -> Returned {
+        let Some(mut first) = take(&self.pile, &mut self.passes, pass) else {
+            return Returned::NoSuch;
+        };
+        std::mem::swap(&mut self.passes, &mut self.spare);
+        let others = std::mem::replace(&mut self.spare, Vec::new(alloc));
+        let returned = match self.pile.join_all(alloc, &mut first, others) {
+            Ok(()) => Returned::Done,
+            Err((fault, back)) => {
+                self.spare = std::mem::replace(&mut self.passes, back);
+                Returned::Fault(fault.number())
+            }
+        };
+        let place = pass.min(self.passes.len());
+        put(&self.pile, &mut self.passes, place, first);
+        returned
+    }
+
+    fn throw_away(&mut self, pass: usize) -> Returned {
+        match take(&self.pile, &mut self.passes, pass) {
+            Some(pass) => {
+                drop(pass);
+                Returned::Done
+            }
+            None => Returned::NoSuch,
+        }
+    }
+
+    fn into_bare(&mut self, pass: usize) -> Returned {
+        let Some(pass) = take(&self.pile, &mut self.passes, pass) else {
+            return Returned::NoSuch;
+        };
+        put_bare(&self.pile, &mut self.bare, bare_of(pass));
+        Returned::Done
+    }
+
+    fn join_bare(&mut self, alloc: Global) -> Returned {
+        let Some(other) = take_bare(&self.pile, &mut self.bare) else {
+            return Returned::NoSuch;
+        };
+        let Some(mut last) = take_bare(&self.pile, &mut self.bare) else {
+            drop(other);
+            return Returned::NoSuch;
+        };
+        let refused = self.pile.join_bare(alloc, &mut last, other).err();
+        put_bare(&self.pile, &mut self.bare, last);
+        let Some((fault, other)) = refused else {
+            return Returned::Done;
+        };
+        put_bare(&self.pile, &mut self.bare, other);
+        Returned::Fault(fault.number())
+    }
+
+    fn counts(&self, pass: usize) -> Returned {
+        match self.passes.get(pass) {
+            Some(pass) => Returned::Has(pass.left(), pass.receipts().len(), pass.seen()),
+            None => Returned::NoSuch,
+        }
+    }
+
+    fn is_whole(&self, pass: usize) -> Returned {
+        if pass >= self.passes.len() {
+            return Returned::NoSuch;
+        }
+        Returned::Is(self.pile.is_whole(&self.passes[pass]))
+    }
+
+    fn rows(&self, pass: usize) -> Returned {
+        match self.passes.get(pass) {
+            Some(pass) => {
+                let (first, end) = pass.rows();
+                Returned::Between(first, end)
+            }
+            None => Returned::NoSuch,
+        }
+    }
+
+    fn receipt(&self, pass: usize, place: usize) -> Returned {
+        let Some(pass) = self.passes.get(pass) else {
+            return Returned::NoSuch;
+        };
+        match pass.receipts().get(place) {
+            Some(receipt) => Returned::Dropped(receipt.number, receipt.site),
+            None => Returned::NoSuch,
+        }
+    }
+
+    fn toppled(&self, pass: usize, site: usize) -> Returned {
+        let Some(pass) = self.passes.get(pass) else {
+            return Returned::NoSuch;
+        };
+        if site >= self.shape.sites() {
+            return Returned::NoSuch;
+        }
+        let (first, end) = pass.rows();
+        let (_, row) = self.shape.place(site);
+        if row < usize::from(first) || row >= usize::from(end) {
+            return Returned::NoSuch;
+        }
+        Returned::Number(pass.toppled(site))
+    }
+
+    pub fn number(&self, pass: usize, place: usize) -> Option<u64> {
+        Some(self.passes.get(pass)?.receipts().get(place)?.number)
+    }
+
+    /// The number of receipts with this number.
+    pub fn receipts_with(&self, pass: usize, number: u64) -> usize {
+        let Some(pass) = self.passes.get(pass) else {
+            return 0;
+        };
+        let receipts = pass.receipts().iter();
+        receipts.filter(|receipt| receipt.number == number).count()
+    }
+
+    /// Runs its two passes on two threads that meet: each makes all remaining drops at its site, or sweeps if it has
+    /// none. Also returns how often the sweep of each toppled. Returns `None` if they do not meet.
+    pub fn both_at_once<R: Threads + Sync>(
+        mut self,
+        rt: &R,
+        here: Option<usize>,
+        there: Option<usize>,
+    ) -> Option<(PileWithPasses, (u64, u64))> {
+        if !is_inside(self.shape, here) || !is_inside(self.shape, there) {
+            drop(self);
+            return None;
+        }
+        let Some((one, other)) = take_two(&self.pile, &mut self.passes) else {
+            drop(self);
+            return None;
+        };
+        let (one, other, swept) = both_at_once(rt, &self.pile, one, other, here, there);
+        put(&self.pile, &mut self.passes, 0, other);
+        put(&self.pile, &mut self.passes, 0, one);
+        match swept {
+            Some(swept) => Some((self, swept)),
+            None => {
+                drop(self);
+                None
+            }
+        }
+    }
+
+    // Ends the shared pile with its first pass. If that fails, everything comes back, with the number of the fault.
+    fn record(mut self, alloc: Global, ending: Ending) -> Result<Record, (u32, PileWithPasses)> {
+        let Some(first) = take(&self.pile, &mut self.passes, 0) else {
+            return Err((0, self));
+        };
+        let PileWithPasses {
+            shape,
+            pile,
+            mut passes,
+            spare,
+            bare,
+        } = self;
+        let ended = match ending {
+            Ending::Close => pile.close(alloc, first),
+            _ => pile.settle(alloc, first),
+        };
+        match ended {
+            Ok(record) => {
+                drop((passes, spare, bare));
+                Ok(record)
+            }
+            Err((fault, pile, first)) => {
+                put(&pile, &mut passes, 0, first);
+                let pile = PileWithPasses {
+                    shape,
+                    pile,
+                    passes,
+                    spare,
+                    bare,
+                };
+                Err((fault.number(), pile))
+            }
+        }
+    }
+
+    // Whether what is left, settled with the last bare pass, is as expected, or the number of the fault.
+    fn settle_rest(&mut self, alloc: Global, left: Left<'_>) -> Result<bool, u32> {
+        let Some(last) = self.bare.len().checked_sub(1) else {
+            return Ok(false);
+        };
+        match self.pile.settle_rest(alloc, &mut self.bare[last]) {
+            Ok(rest) => {
+                let is_right = is_settled(&rest, left.heights, left.odometer, left.lost);
+                drop(rest);
+                Ok(is_right)
+            }
+            Err(fault) => Err(fault.number()),
+        }
+    }
+
+    /// Ends the shared pile, and returns whether this has the expected result. If it fails, everything comes back, with
+    /// the number of the fault.
+    pub fn end(
+        mut self,
+        alloc: Global,
+        ending: Ending,
+        left: Left<'_>,
+    ) -> Result<bool, (u32, PileWithPasses)> {
+        if let Ending::SettleRest = ending {
+            return match self.settle_rest(alloc, left) {
+                Ok(is_right) => {
+                    drop(self);
+                    Ok(is_right)
+                }
+                Err(fault) => Err((fault, self)),
+            };
+        }
+        match self.record(alloc, ending) {
+            Ok(record) => Ok(is_left(record, left)),
+            Err(back) => Err(back),
+        }
+    }
+
+    /// The pile, if this ending fails because something is missing.
+    pub fn misses(self, alloc: Global, ending: Ending) -> Option<PileWithPasses> {
+        match self.end(alloc, ending, NOTHING) {
+            Err((14, pile)) => Some(pile),
+            ended => {
+                drop(ended);
+                None
+            }
+        }
+    }
+
+    /// The pile, if no record can be made because something is missing.
+    pub fn still_missing(self, alloc: Global) -> Option<PileWithPasses> {
+        self.misses(alloc, Ending::Close)?
+            .misses(alloc, Ending::Settle)
+    }
+
+    /// Whether this ending has this result.
+    pub fn leaves(self, alloc: Global, ending: Ending, left: Left<'_>) -> bool {
+        match self.end(alloc, ending, left) {
+            Ok(is_right) => is_right,
+            Err(back) => {
+                drop(back);
+                false
+            }
+        }
+    }
+}
+
+fn is_left(record: Record, left: Left<'_>) -> bool {
+    let is_left = is_record(
+        &record,
+        left.history,
+        left.heights,
+        left.odometer,
+        left.lost,
+    );
+    drop(record);
+    is_left
+}
+
+/// Whether there is a pile: the calls before it returned what was expected.
+pub fn is_there(pile: Option<PileWithPasses>) -> bool {
+    let is_there = pile.is_some();
+    drop(pile);
+    is_there
+}
+
+/// Whether, after these calls, both endings have this result.
+pub fn both_leave(
+    alloc: Global,
+    start: Start<'_>,
+    calls: &[(Call, Returned)],
+    left: Left<'_>,
+) -> bool {
+    ENDINGS.iter().all(|ending| match PileWithPasses::played(alloc, start, calls) {
+        Some(pile) => pile.leaves(alloc, *ending, left),
+        None => false,
+    })
+}
