@@ -2,6 +2,7 @@
 use Rattle.std.specs.Prelude.{ℕ, ⊤, ◌≡◌, ◌⊎◌, Bool, true, false, ◌&&◌, ◌||◌, List, [], ◌∷◌, Some, None, codes}
 use Rattle.std.specs.Str.{bytes_eq}
 use Rattle.std.specs.Io.KnownBytes.{Keeps}
+use Rattle.sand_cli.specs.Names as names
 use Rattle.sand_desk.specs.Commands.{Call, EndsBy, HelpsIfAsked, IsDone, TellsWords}
 use Rattle.sand_desk.specs.Faults.{status_of}
 use Rattle.sand_desk.specs.Helping.{IsHelped, IsShown, IsShownInPart, IsUnshown}
@@ -13,14 +14,9 @@ use Rattle.sandpile.specs.declared.request.Request.TheVariants as request
 abbrev pub is_version : List ℕ → Bool
 is_version word = bytes_eq word (codes "-V") || bytes_eq word (codes "--version")
 
-abbrev pub reads_a_pile : List ℕ → Bool
-reads_a_pile word =
-    bytes_eq word (codes "settle") || bytes_eq word (codes "burn") || bytes_eq word (codes "drops")
-    || bytes_eq word (codes "add") || bytes_eq word (codes "inverse") || bytes_eq word (codes "multiple")
-    || bytes_eq word (codes "recurrent") || bytes_eq word (codes "lab")
-
+-- the word is a command of the command line, or `explain`
 abbrev pub is_command : List ℕ → Bool
-is_command word = reads_a_pile word || bytes_eq word (codes "identity") || bytes_eq word (codes "explain")
+is_command word = names.is_command word || bytes_eq word (codes "explain")
 
 -- the words ask for the version, alone or after a command; the first word is the program's name
 abbrev pub wants_version : List (List ℕ) → Bool

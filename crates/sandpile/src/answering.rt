@@ -5,9 +5,9 @@ ghost use Rattle.sand_desk.specs.Commands.{TellsWords, call_of};
 ghost use Rattle.sand_desk.specs.Faults.{status_of};
 ghost use Rattle.sandpile.specs.Answering.{IsAnswer, IsNoAnswer, IsPerformed, IsUnperformed};
 
-use crate::advice::{write_explain_help, write_explained};
-use crate::progress::Progress;
+use crate::explaining::{write_explain_help, write_explained};
 use crate::request::Request;
+use sand_advice::Progress;
 use sand_desk::{DeskFault, run_gated_command, show_help, status, write_version};
 use sand_lab::{Gate, Open};
 use std::alloc::Global;

@@ -3,19 +3,17 @@
 //! and long commands show their progress there.
 #![tactic(auto)]
 
-mod advice;
 mod answering;
 mod arguments;
+mod explaining;
 mod kept;
-mod progress;
 mod request;
 
-use advice::{advice, tip};
 use answering::answer_and_show;
 use arguments::{is_nothing, words_of};
 use kept::Kept;
-use progress::{Cleared, progress_of};
 use request::{Misuse, request_of};
+use sand_advice::{Cleared, advice, progress_of, tip};
 use sand_desk::{DeskFault, report_fault};
 use std::alloc::Global;
 use std::io;
@@ -85,6 +83,17 @@ fn report_misuse<R: Eprint>(rt: &R, misuse: Misuse<'_>) -> ExitCode {
     ExitCode::from(2)
 }
 
+// The number at the end of a fault's line, or 0.
+fn place_of(fault: &DeskFault) -> usize {
+    match fault {
+        DeskFault::Text(place)
+        | DeskFault::TooLarge(place)
+        | DeskFault::NoSite(place)
+        | DeskFault::Write(place) => *place,
+        _ => 0,
+    }
+}
+
 // Tells a person what a fault means here, and what to do. If memory runs out for that, nothing is said.
 fn advise<R: Eprint>(
     rt: &R,
@@ -95,7 +104,13 @@ fn advise<R: Eprint>(
 ) {
     let said = match (fault, words) {
         (DeskFault::Usage(_) | DeskFault::Clash(_), _) => tip(alloc, words),
-        (_, [_, command, ..]) => advice(alloc, command.as_str(), input, fault),
+        (_, [_, command, ..]) => advice(
+            alloc,
+            command.as_str(),
+            input,
+            fault.number(),
+            place_of(fault),
+        ),
         _ => return,
     };
     if let Ok(text) = said {

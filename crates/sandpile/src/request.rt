@@ -1,9 +1,9 @@
 //! What the words ask for: a command's task, or something of the program itself.
 
 ghost use Rattle.std.specs.Prelude.{◌≡◌, IfErr, IfOk, map, string_bytes, true};
-ghost use Rattle.sandpile.specs.Answering.{IsAsked, IsOfExplain, is_version, wants_explanation, wants_version};
+ghost use Rattle.sandpile.specs.Answering.{IsAsked, IsOfExplain, is_command, is_version, wants_explanation, wants_version};
 
-use crate::advice::{fault_named, is_command};
+use sand_advice::fault_named;
 use sand_desk::asks_for_version;
 
 /// What the words ask for; the first word is the program's name.
@@ -34,6 +34,13 @@ fn is_version(word: &str) -> bool
 
 fn is_help(word: &str) -> bool {
     matches!(word, "--help" | "-h")
+}
+
+// Whether a word is a command, or `explain`.
+fn is_command(word: &str) -> bool
+    ensures { result ≡ is_command word.now }
+{
+    sand_cli::is_command(word) || word == "explain"
 }
 
 fn wants_version(words: &[String]) -> bool

@@ -4,7 +4,7 @@
 //! The cursor is on the row below the line. A program in Rattle cannot catch a signal, so Ctrl-C leaves the line on the
 //! screen; what the terminal and the shell write then comes below it.
 
-use crate::advice::progress_line;
+use crate::progress_text::progress_line;
 use sand_cli::{Task, task_of};
 use sand_lab::{Gate, Role};
 use std::alloc::{AllocError, Global};
@@ -87,7 +87,7 @@ fn rewrites_lines<R: Env>(rt: &R) -> bool {
 
 /// The progress of the work that the words ask for, from now on: none if it is not long, if the terminal cannot rewrite
 /// a line, or if memory runs out.
-pub(crate) fn progress_of<'a, R: Eprint + Clock + Env>(
+pub fn progress_of<'a, R: Eprint + Clock + Env>(
     rt: &'a R,
     alloc: Global,
     words: &[String],
@@ -110,7 +110,7 @@ fn counts_of(alloc: Global, droppers: u32) -> Result<Vec<AtomicU64>, AllocError>
 
 /// A gate that holds no thread, and writes the line once a second, the first time after one second.
 #[derive(Drop)]
-pub(crate) struct Progress<'a, R> {
+pub struct Progress<'a, R> {
     rt: &'a R,
     alloc: Global,
     work: Work,
@@ -135,7 +135,7 @@ impl<'a, R: Eprint + Clock> Progress<'a, R> {
     }
 
     /// Clears the line, and writes no more.
-    pub(crate) fn end(&self) {
+    pub fn end(&self) {
         self.is_over.store(true, SeqCst);
         if self.shown.swap(0, SeqCst) > 0 {
             let _ = eprint!(self.rt; "{TO_LINE}{CLEAR}");
@@ -218,14 +218,14 @@ impl<R: Eprint + Clock + Sync> Gate for Progress<'_, R> {
 
 /// Passes on what is written. If that goes to the same terminal, it clears the line first.
 #[derive(Drop)]
-pub(crate) struct Cleared<'a, 'b, W, R> {
+pub struct Cleared<'a, 'b, W, R> {
     writer: W,
     progress: Option<&'a Progress<'b, R>>,
 }
 
 impl<'a, 'b, W, R> Cleared<'a, 'b, W, R> {
     /// A writer that clears the line of `progress`, if given.
-    pub(crate) fn new(writer: W, progress: Option<&'a Progress<'b, R>>) -> Cleared<'a, 'b, W, R> {
+    pub fn new(writer: W, progress: Option<&'a Progress<'b, R>>) -> Cleared<'a, 'b, W, R> {
         Cleared { writer, progress }
     }
 }

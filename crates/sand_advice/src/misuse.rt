@@ -1,20 +1,7 @@
 //! Tips for words that the command line rejects: a file's name, or a value that is not a whole number.
 
-ghost use Rattle.std.specs.Prelude.{◌≡◌};
-ghost use Rattle.sandpile.specs.Answering.{is_command, reads_a_pile};
-
+use sand_cli::{is_command, is_flag};
 use std::alloc::{AllocError, Global};
-
-/// The options without a value.
-static FLAGS: [&str; 7] = [
-    "--pile",
-    "--pgm",
-    "--table",
-    "--cylinder",
-    "--journal",
-    "--help",
-    "--version",
-];
 
 /// A rejected word, and what may be wrong with it.
 #[derive(Clone, Copy)]
@@ -26,20 +13,8 @@ enum Mistake<'a> {
 }
 
 // Whether a word is a command that reads a pile from standard input.
-fn reads_a_pile(word: &str) -> bool
-    ensures { result ≡ reads_a_pile word.now }
-{
-    matches!(
-        word,
-        "settle" | "burn" | "drops" | "add" | "inverse" | "multiple" | "recurrent" | "lab"
-    )
-}
-
-/// Whether a word is a command.
-pub fn is_command(word: &str) -> bool
-    ensures { result ≡ is_command word.now }
-{
-    reads_a_pile(word) || matches!(word, "identity" | "explain")
+fn reads_a_pile(word: &str) -> bool {
+    is_command(word) && word != "identity"
 }
 
 // Whether a word is a whole number as options accept it.
@@ -56,7 +31,10 @@ fn is_plain(word: &str) -> bool {
 
 // Whether the word is an option that takes the next word as its value.
 fn awaits_value(word: &str) -> bool {
-    word.starts_with("--") && !word.contains('=') && !FLAGS.contains(&word)
+    match word.strip_prefix("--") {
+        Some(name) => !name.contains('=') && !is_flag(name) && !matches!(name, "help" | "version"),
+        None => false,
+    }
 }
 
 // The mistake in a value, if there is one. For an empty value clap's message is enough.

@@ -1,12 +1,13 @@
 //! A rejected command, and the pile of its input that a fault is about.
 
-use crate::advice::outline::{Defect, Numbers, Outline};
+use crate::outline::{Defect, Numbers, Outline};
 
-/// A rejected command, and the bytes that it read.
+/// A rejected command, the bytes that it read, and the number at the end of the fault's line, or 0.
 #[derive(Clone, Copy)]
 pub(crate) struct Refused<'a> {
     pub command: &'a str,
     pub input: &'a [u8],
+    pub place: usize,
 }
 
 /// A pile in the input, and its name in a sentence.

@@ -1,6 +1,6 @@
 //! The progress of a long command, in one line.
 
-use crate::advice::pushing::push_grouped;
+use crate::pushing::push_grouped;
 use std::alloc::{AllocError, Global};
 
 const MINUTE: u64 = 60;
@@ -27,7 +27,7 @@ fn scaled(number: u64, of: u64, by: u64) -> u64 {
 
 /// The drops made and wanted, the percentage, the time so far, and the time left at this rate: `drops 3,400,000 of
 /// 10,000,000   34 %   41 s   1 min 19 s left`. Fails if memory runs out.
-pub fn progress_line(
+pub(crate) fn progress_line(
     alloc: Global,
     command: &str,
     made: u64,

@@ -1,6 +1,6 @@
 //! Numbers, bytes and positions as they are written in a sentence.
 
-use crate::advice::outline::Outline;
+use crate::outline::Outline;
 use sand_text::{column, line};
 use std::alloc::AllocError;
 

@@ -1,11 +1,11 @@
 //! What is said about the sides, the heights and the grains of a rejected pile.
 
-use crate::advice::outline::{Defect, Outline, grid_without_size};
-use crate::advice::pushing::{push_grouped, push_heights, push_place, push_sides};
-use crate::advice::refused::Refused;
-use sand_desk::read_two;
+use crate::outline::{Defect, Outline, grid_without_size};
+use crate::pushing::{push_grouped, push_heights, push_place, push_sides};
+use crate::refused::Refused;
 use sand_group::{Burned, burn};
 use sand_model::{CYLINDER_WIDTH, GRAIN_LIMIT, SIDE_LIMIT};
+use sand_text::read_two;
 use std::alloc::{AllocError, Global};
 
 // What to do about a size that does not fit.
@@ -159,11 +159,8 @@ pub(crate) fn push_forbidden(
     write!(text, "{name} has a forbidden set, so it is not recurrent\n")
 }
 
-pub(crate) fn push_no_site(
-    text: &mut String,
-    refused: &Refused<'_>,
-    index: usize,
-) -> Result<(), AllocError> {
+pub(crate) fn push_no_site(text: &mut String, refused: &Refused<'_>) -> Result<(), AllocError> {
+    let index = refused.place;
     let Some(pile) = refused.first() else {
         return Ok(());
     };

@@ -1,4 +1,4 @@
-use Rattle.sandpile.proofs.advice.pushing.+push_grouped.Given as goal
+use Rattle.sand_advice.proofs.pushing.+push_grouped.Given as goal
 
 abbrev pub decreases-push_grouped : goal.decreases-push_grouped
 decreases-push_grouped l = l.number

@@ -1,12 +1,6 @@
 //! The faults that a command may report: what each one means, and what to do about it.
 
-ghost use Rattle.std.specs.Prelude.{None, IfErr, OnOk};
-ghost use Rattle.sand_desk.specs.Helping.{IsShown, IsUnshown};
-
-use sand_desk::DeskFault;
-use sand_text::write_text;
 use std::alloc::{AllocError, Global};
-use std::io::Write;
 
 /// The explanation of a fault. Its lines are at most 76 bytes long, because they are indented by two spaces.
 #[derive(Clone, Copy)]
@@ -163,7 +157,7 @@ minus 1.",
 ];
 
 /// The help of `sandpile explain`.
-const EXPLAIN_HELP: &str = "\
+pub const EXPLAIN_HELP: &str = "\
 Explains a fault and what to do about it
 
 Usage: sandpile explain [FAULT]
@@ -192,10 +186,9 @@ pub fn fault_named(word: &str) -> Option<&'static Explained> {
         .find(|fault| number == Some(fault.number) || word == fault.name)
 }
 
-/// The explanation of a fault, if a command may report it.
-pub(crate) fn of_fault(fault: &DeskFault) -> Option<&'static Explained> {
-    let number = fault.number();
-    FAULTS.iter().find(|explained| explained.number == number)
+/// The explanation of the fault with this number, if a command may report it.
+pub(crate) fn fault_numbered(number: u32) -> Option<&'static Explained> {
+    FAULTS.iter().find(|fault| fault.number == number)
 }
 
 // Appends lines, each indented by two spaces.
@@ -218,8 +211,9 @@ fn push_explained(text: &mut String, fault: &Explained) -> Result<(), AllocError
     push_indented(text, fault.remedy)
 }
 
-// The explanation of the fault with this number, or of all, separated by empty lines.
-fn explained_text(alloc: Global, number: Option<u32>) -> Result<String, AllocError> {
+/// The text of the explanation of the fault with this number, or of all, separated by empty lines. Fails if memory runs
+/// out.
+pub fn explained_text(alloc: Global, number: Option<u32>) -> Result<String, AllocError> {
     let mut text = String::new(alloc);
     for fault in &FAULTS {
         if number.is_some() && number != Some(fault.number) {
@@ -231,29 +225,4 @@ fn explained_text(alloc: Global, number: Option<u32>) -> Result<String, AllocErr
         push_explained(&mut text, fault)?;
     }
     Ok(text)
-}
-
-/// Writes the explanation of the fault with this number, or of all, separated by empty lines. Fails if memory runs out
-/// for the text (`Memory`) or the writer fails (`Write`, with the number of bytes it took).
-pub fn write_explained<W: Write>(
-    alloc: Global,
-    number: Option<u32>,
-    writer: &mut W,
-) -> Result<(), DeskFault>
-    ensures shown { OnOk result (IsShown None (W.contents writer.old) (W.contents writer.new)) }
-    ensures fault { IfErr result (IsUnshown None (W.contents writer.old) (W.contents writer.new)) }
-{
-    let text = explained_text(alloc, number)?;
-    write_text(writer, text.as_str().as_bytes())?;
-    Ok(())
-}
-
-/// Writes the help of `sandpile explain`. Allocates nothing. Fails if the writer fails (`Write`, with the number of
-/// bytes it took).
-pub fn write_explain_help<W: Write>(writer: &mut W) -> Result<(), DeskFault>
-    ensures shown { OnOk result (IsShown None (W.contents writer.old) (W.contents writer.new)) }
-    ensures fault { IfErr result (IsUnshown None (W.contents writer.old) (W.contents writer.new)) }
-{
-    write_text(writer, EXPLAIN_HELP.as_bytes())?;
-    Ok(())
 }
