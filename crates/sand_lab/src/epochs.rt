@@ -60,32 +60,20 @@ fn settle<R: Threads + Sync>(
     alloc: Global,
     pile: SharedPile,
     mut all: BarePass,
-    blank: Blank,
+    mut blank: Blank,
     parts: Vec<Vec<Receipt>>,
-    drops: u32,
 ) -> Result<(Vec<Entry>, Record), LabFault>
     requires of_pile { IsPassOf pile all }
     requires whole { IsWhole pile.terms all }
-    requires places { HavePlaces drops (lists parts.items) (vec_len blank.journal) }
+    requires places { HavePlaces blank.drops (lists parts.items) (vec_len blank.journal) }
     requires parts { flattened (lists parts.items) ≡ all.receipts }
     requires room { (blank.history.items ≡ []) × (vec_len blank.journal ≤ vec_capacity blank.history) }
-    ensures journal { IfOk result (λ r. IsJournal drops (flattened (lists parts.items)) r.0.items) }
+    ensures journal { IfOk result (λ r. IsJournal blank.drops (flattened (lists parts.items)) r.0.items) }
     ensures closed { IfOk result (λ r. IsRecordOf pile.terms all r.1) }
     ensures memory { IfErr result IsMemory }
 {
-    let Blank {
-        mut journal,
-        history,
-    } = blank;
-    let rest = settle_and_write_journal(
-        rt,
-        alloc,
-        &pile,
-        &mut all,
-        &mut journal,
-        parts.as_slice(),
-        drops,
-    )?;
+    let rest = settle_and_write_journal(rt, alloc, &pile, &mut all, &mut blank, parts.as_slice())?;
+    let Blank { journal, history, .. } = blank;
     let history = write_history_and_free(rt, history, journal.as_slice(), parts);
     Ok((journal, pile.complete(all, rest, history)))
 }
@@ -110,7 +98,7 @@ pub(crate) fn closed_epoch<R: Threads + Sync, G: Gate>(
     crew.sweep_on(rt, &pile, wish.sweeps);
     let (mut all, _none) = first.into_bare();
     let Gathered { parts, findings } = crew.gather(alloc, &pile, &mut all)?;
-    let (journal, closed) = settle(rt, alloc, pile, all, blank, parts, wish.drops)?;
+    let (journal, closed) = settle(rt, alloc, pile, all, blank, parts)?;
     let (closed, shown) = closed.twice(alloc)?;
     Ok(ClosedEpoch {
         closed,

@@ -23,19 +23,22 @@ use sand_shared::{BarePass, Receipt, SharedPile};
 use std::alloc::Global;
 use std::thread::{Threads, join, join_mut};
 
-/// A blank journal, and room for a history.
+/// A blank journal, and room for a history, of `drops` drops by each dropper.
 #[derive(Drop)]
 pub(crate) struct Blank {
+    pub(crate) drops: u32,
     pub(crate) journal: Vec<Entry>,
     pub(crate) history: Vec<usize>,
 }
 
 // Both lists, made concurrently.
-fn make_blank<R: Threads + Sync>(rt: &R, alloc: Global, drops: u64) -> Result<Blank, LabFault>
-    ensures journal { IfOk result (λ b. vec_len b.journal ≡ drops) }
-    ensures history { IfOk result (λ b. (b.history.items ≡ []) × (drops ≤ vec_capacity b.history)) }
+fn make_blank<R: Threads + Sync>(rt: &R, alloc: Global, wish: Wish) -> Result<Blank, LabFault>
+    ensures drops { IfOk result (λ b. b.drops ≡ wish.drops) }
+    ensures journal { IfOk result (λ b. vec_len b.journal ≡ quota_of wish) }
+    ensures history { IfOk result (λ b. (b.history.items ≡ []) × (quota_of wish ≤ vec_capacity b.history)) }
     ensures memory { IfErr result IsMemory }
 {
+    let drops = quota_of(wish);
     let (journal, history) = join(
         rt,
         || -> Result<Vec<Entry>, LabFault>
@@ -50,7 +53,11 @@ fn make_blank<R: Threads + Sync>(rt: &R, alloc: Global, drops: u64) -> Result<Bl
     );
     let journal = journal?;
     let history = history?;
-    Ok(Blank { journal, history })
+    Ok(Blank {
+        drops: wish.drops,
+        journal,
+        history,
+    })
 }
 
 /// A crew works while the lists for its results are made. The only error is Memory.
@@ -64,11 +71,11 @@ pub(crate) fn work_and_make_blank<R: Threads + Sync, G: Gate>(
 ) -> Result<Blank, LabFault>
     requires crew { (epoch : ℕ) × IsCrew pile.now wish epoch crew.old }
     ensures crew { HasBecome pile.now wish crew.old crew.new }
+    ensures drops { IfOk result (λ b. b.drops ≡ wish.drops) }
     ensures journal { IfOk result (λ b. vec_len b.journal ≡ quota_of wish) }
     ensures history { IfOk result (λ b. (b.history.items ≡ []) × (quota_of wish ≤ vec_capacity b.history)) }
     ensures memory { IfErr result IsMemory }
 {
-    let drops = quota_of(wish);
     let ((), blank) = join_mut(
         rt,
         &mut ||
@@ -77,10 +84,11 @@ pub(crate) fn work_and_make_blank<R: Threads + Sync, G: Gate>(
         { crew.work(rt, pile, gate, wish) },
         &mut || -> Result<Blank, LabFault>
             requires { IsSync R.row }
-            ensures journal { IfOk result (λ b. vec_len b.journal ≡ drops) }
-            ensures history { IfOk result (λ b. (b.history.items ≡ []) × (drops ≤ vec_capacity b.history)) }
+            ensures drops { IfOk result (λ b. b.drops ≡ wish.drops) }
+            ensures journal { IfOk result (λ b. vec_len b.journal ≡ quota_of wish) }
+            ensures history { IfOk result (λ b. (b.history.items ≡ []) × (quota_of wish ≤ vec_capacity b.history)) }
             ensures memory { IfErr result IsMemory }
-        { make_blank(rt, alloc, drops) },
+        { make_blank(rt, alloc, wish) },
     );
     blank
 }
@@ -110,18 +118,20 @@ pub(crate) fn settle_and_write_journal<R: Threads + Sync>(
     alloc: Global,
     pile: &SharedPile,
     all: &mut BarePass,
-    journal: &mut Vec<Entry>,
+    blank: &mut Blank,
     parts: &[Vec<Receipt>],
-    drops: u32,
 ) -> Result<Settled, LabFault>
     requires of_pile { IsPassOf pile.now all.old }
     requires whole { IsWhole pile.now.terms all.old }
-    requires places { HavePlaces drops (lists parts.now) (vec_len journal.old) }
-    ensures journal { IsJournal drops (flattened (lists parts.now)) journal.new.items }
+    requires places { HavePlaces blank.old.drops (lists parts.now) (vec_len blank.old.journal) }
+    ensures journal { IsJournal blank.old.drops (flattened (lists parts.now)) blank.new.journal.items }
+    ensures history { blank.new.history ≡ blank.old.history }
     ensures pass { all.new ≡ all.old }
     ensures rest { IfOk result (IsRestOf pile.now.terms all.old) }
     ensures memory { IfErr result IsMemory }
 {
+    let drops = blank.drops;
+    let journal = &mut blank.journal;
     let ((), rest) = join_mut(
         rt,
         &mut ||

@@ -39,31 +39,6 @@ fn first_report<R: Threads + Sync, G: Gate>(
     Report::of(alloc, closed, sheet, copy)
 }
 
-// Runs the next epoch, which starts from the pile of the total, and adds it to the report.
-fn add_epoch<R: Threads + Sync, G: Gate>(
-    rt: &R,
-    alloc: Global,
-    wish: Wish,
-    epoch: u32,
-    gate: &G,
-    album: &Album,
-    report: &mut Report,
-) -> Result<(), LabFault>
-    requires plan { IsPlan wish }
-    requires place { epoch < length album.now }
-    requires bound { length report.old.records < 100 }
-    requires room { (sum report.old.total.start.heights + (length report.old.total.history + quota_of wish)
-        ≤ most_grains) × (sum report.old.total.settled.pile.heights + quota_of wish ≤ most_grains) }
-    ensures report { OnOk result ((start : PileView)
-        → IsReportOf album.now wish start epoch report.old → IsReportOf album.now wish start (epoch + 1) report.new) }
-    ensures faults { IfErr result IsOfEpoch }
-{
-    let pile = report.total().pile();
-    let next = closed_epoch(rt, alloc, pile, wish, epoch, gate)?;
-    let (closed, sheet) = next.publish(alloc, epoch, album)?;
-    report.add(alloc, closed, sheet)
-}
-
 // Runs all epochs of a plan that fits the limit and the album.
 fn run_all<R: Threads + Sync, G: Gate>(
     rt: &R,
@@ -81,7 +56,10 @@ fn run_all<R: Threads + Sync, G: Gate>(
 {
     let mut report = first_report(rt, alloc, start, wish, gate, album)?;
     for epoch in 1..wish.epochs {
-        add_epoch(rt, alloc, wish, epoch, gate, album, &mut report)?;
+        let pile = report.total().pile();
+        let next = closed_epoch(rt, alloc, pile, wish, epoch, gate)?;
+        let (closed, sheet) = next.publish(alloc, epoch, album)?;
+        report.add(alloc, closed, sheet)?;
     }
     Ok(report)
 }

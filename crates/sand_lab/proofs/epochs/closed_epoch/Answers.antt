@@ -1,4 +1,4 @@
-use Rattle.std.proofs.Common.{◌≡◌, List, vec_len, map, sym, ap, subst, ◌∙◌}
+use Rattle.std.proofs.Common.{◌≡◌, ℕ, List, vec_len, map, sym, ap, subst, ◌∙◌}
 use Rattle.sand_model.specs.Piles.{PileView}
 use Rattle.sand_shared.specs.declared.view.Receipt.{Receipt}
 use Rattle.sand_shared.specs.declared.view.Terms.{Terms}
@@ -6,7 +6,7 @@ use Rattle.sand_shared.specs.Passes.{PassView, EachOnce}
 use Rattle.sand_shared.specs.Record.{RecordView}
 use Rattle.sand_plan.specs.Plans.{quota_of}
 use Rattle.sand_lab.specs.Crews.{HasWorked}
-use Rattle.sand_lab.specs.Journals.{IsJournal, flattened, lists}
+use Rattle.sand_lab.specs.Journals.{HavePlaces, IsJournal, flattened, lists}
 use Rattle.sand_lab.specs.Epochs.{IsClosed}
 use Rattle.sand_lab.proofs.EpochIsClosed.{whole, gathered_parts, places, closed_is}
 use Rattle.sand_lab.proofs.epochs.closed_epoch.Goals.{After-sweep_on}
@@ -44,9 +44,11 @@ settle-requires-clause-places g c κs bounds =
     let at = (goal.at.settle-requires-clause-places g c).After-sweep_on in
     let once : EachOnce c.gather.new.first.receipts =
     subst EachOnce (ap (λ (p : PassView). p.receipts) c.all.view_is) c.all.invariant.pass.once in
-    places c.in_ok-pile.pile c.args.wish c.args.epoch c.sweep_on.new.self c.gather.new.first (quota g at) (worked g at)
-    c.in_ok-parts.ensures.first (lists c.in_ok-parts.field-0.parts.items) (vec_len c.in_ok-blank.blank.journal)
-    c.in_ok-parts.ensures.parts c.in_ok-blank.ensures.journal once c.requires.plan
+    let parts = lists c.in_ok-parts.field-0.parts.items in
+    let long = vec_len c.in_ok-blank.blank.journal in
+    subst (λ (n : ℕ). HavePlaces n parts long) (sym c.in_ok-blank.ensures.drops)
+    (places c.in_ok-pile.pile c.args.wish c.args.epoch c.sweep_on.new.self c.gather.new.first (quota g at) (worked g at)
+    c.in_ok-parts.ensures.first parts long c.in_ok-parts.ensures.parts c.in_ok-blank.ensures.journal once c.requires.plan)
 
 pub settle-requires-clause-parts : goal.settle-requires-clause-parts
 settle-requires-clause-parts g c κs bounds =
@@ -62,8 +64,8 @@ returns-clause-closed g c =
     let start : s.terms.start ≡ c.args.start.now = ap (λ (t : Terms). t.start) c.in_ok-pile.ensures.terms in
     let gathered = c.in_ok-parts.ensures in
     let written = c.in_ok-journal.journal.items in
-    let journal = subst (λ (parts : List (List Receipt)). IsJournal w.drops (flattened parts) written)
-    gathered.parts c.in_ok-journal.ensures.journal in
+    let journal = subst (λ (z : ℕ × List (List Receipt)). IsJournal z.0 (flattened z.1) written)
+    (λ i. (c.in_ok-blank.ensures.drops i, gathered.parts i)) c.in_ok-journal.ensures.journal in
     let tallies = map (λ ts. ts.items) c.in_ok-parts.field-0.findings.tallies.items in
     let swept = c.in_ok-parts.field-0.findings.swept.items in
     let epoch = closed_is s w c.args.epoch c.sweep_on.new.self c.gather.new.first (quota g at) (worked g at)

@@ -24,8 +24,8 @@ pub complete-requires-clause-tells : goal.complete-requires-clause-tells
 complete-requires-clause-tells g c =
     subst (λ (p : PassView). Tells p.receipts c.write_history_and_free-history.result.items)
     (sym c.settle_and_write_journal.ensures.pass)
-    (told c.args.drops c.args.all.receipts c.args.parts.items c.as_slice.result.now
-    c.settle_and_write_journal.new.journal.items c.as_slice-2.result.now c.write_history_and_free-history.result.items
+    (told c.args.blank.drops c.args.all.receipts c.args.parts.items c.as_slice.result.now
+    c.settle_and_write_journal.new.blank.journal.items c.as_slice-2.result.now c.write_history_and_free-history.result.items
     c.as_slice.ensures.value c.requires.parts c.as_slice-2.ensures.value
     c.write_history_and_free-history.ensures c.settle_and_write_journal.ensures.journal)
 
