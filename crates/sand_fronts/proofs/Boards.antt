@@ -1,16 +1,17 @@
 -- The neighbours of the tile of a site are on the board.
-use Rattle.std.proofs.Common.{ℕ, Bool, true, false, cond, ◌≡◌, ◌+◌, ◌-◌, ◌*◌, ◌/◌, ◌%◌, ◌<◌, ◌≤◌, List, length, sym, ◌∙◌, ap, arith, refl}
+use Rattle.std.proofs.Common.{ℕ, Bool, true, false, cond, eqb, ◌&&◌, ◌≡◌, ◌+◌, ◌-◌, ◌*◌, ◌/◌, ◌%◌, ◌<◌, ◌≤◌, List, length, sym, ◌∙◌, ap, arith, refl}
 use Rattle.std.specs.Vec.{with_item}
 use Rattle.std.proofs.lemmas.List.{length-set}
 use Rattle.std.proofs.lemmas.Nat.{mul-add-lt, div_below}
-use Rattle.sand_model.specs.Grid.{Grid, IsGrid, sites}
+use Rattle.sand_model.specs.Grid.{Grid, IsGrid, sites, joins}
+use Rattle.sand_model.specs.declared.shape.Edge.TheVariants.{Open}
 use Rattle.sand_tiles.specs.declared.tile.Tile.{Tile}
 use Rattle.sand_fronts.specs.declared.sides.Beside.{Beside}
 use Rattle.sand_fronts.specs.declared.board.Board.{Board}
 use Rattle.sand_fronts.specs.declared.sand.Sand.{Sand}
 use Rattle.sand_fronts.specs.Tiling.{across, down, pitch, tiles, tile_of, place_of, to_west, to_east, shift_west, shift_east, seam_west, seam_east}
 use Rattle.sand_fronts.specs.Boards.{IsBoard, IsSand}
-use Rattle.sand_fronts.specs.Waves.{IsBeside, AreBeside, beside_at}
+use Rattle.sand_fronts.specs.Waves.{open_beside, IsBeside, AreBeside, beside_at}
 use Rattle.sand_fronts.proofs.NeighboursOnTiles.{parts_of, site_at}
 
 -- the tile of a site is not in the last row of tiles
@@ -104,3 +105,16 @@ sand_with g s k t was = record {
   len = length-set {A = Tile} s.tiles.items k t ∙ was.len;
   room = was.room;
 }
+
+-- on a grid with open edges the four tiles are known without a table
+pub beside_open : (g : Grid) (k : ℕ) (b : Beside) → g.edge ≡ Open → IsBeside g k b → open_beside (pitch g) k ≡ b
+unfolding to_west to_east shift_west shift_east
+beside_open g k b edge is =
+    let seam = ap joins edge in
+    let west = is.west ∙ ap (λ j. cond (j && eqb (k % pitch g) 1) (k + (across g - 1)) (k - 1)) seam in
+    let east = is.east ∙ ap (λ j. cond (j && eqb (k % pitch g) (across g)) (k - (across g - 1)) (k + 1)) seam in
+    let west_shift = is.west_shift ∙ ap (λ j. cond (j && eqb (k % pitch g) 1) ((g.width - 1) % 8) 7) seam in
+    let east_shift = is.east_shift ∙ ap (λ j. cond (j && eqb (k % pitch g) (across g)) ((g.width - 1) % 8) 7) seam in
+    let with : ℕ → ℕ → Beside =
+    λ x y. record { north = b.north; south = b.south; west = b.west; east = b.east; west_shift = x; east_shift = y } in
+    rw (← is.north, ← is.south, ← west, ← east) (ap (λ x. with x 7) (sym west_shift) ∙ ap (with b.west_shift) (sym east_shift))

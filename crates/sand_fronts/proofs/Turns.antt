@@ -18,7 +18,7 @@ use Rattle.sand_tiles.proofs.Moves.{cut}
 use Rattle.sand_fronts.specs.declared.sides.Beside.{Beside}
 use Rattle.sand_fronts.specs.Tiling.{tile_of, place_of, site_on, on_tiles}
 use Rattle.sand_fronts.specs.Waves.{at_site, toppled, only, put, tile_at, AreOpen, AreDueFree, IsNoneDue, IsWave, Gains, over_rim, Steps, PairSteps, IsBeside, AtTile, AreBeside, beside_at, AreAtRest, heights_before}
-use Rattle.sand_fronts.specs.TileLists.{waits, but, IsClear, AreListed}
+use Rattle.sand_fronts.specs.TileLists.{waits, but, IsClear, AreKept}
 use Rattle.sand_fronts.proofs.OnTiles.{place_below, there_again, at_on, on_below, height_low}
 use Rattle.sand_fronts.proofs.Waves.{only_same, open_site, free_at, IsStart, IsUnderWay, none_away, handed_over}
 use Rattle.sand_fronts.proofs.Rims.{IsInner}
@@ -255,11 +255,6 @@ none_left ts n each none m p low = ⊎_elim
     (cases_lt m n)
 
 -- ---- the tiles with sites that have toppled
-
--- the first tiles of the list are on the board, and among them is each tile with sites that have toppled
-pub record AreKept (n : ℕ) (list : List ℕ) (kept : ℕ) (τ : ℕ → Tile) : Type 0 where
-  pub listed : AreListed list 0 kept τ
-  pub on_board : (t : ℕ) → t < kept → get_or list t 0 < n
 
 abbrev pub Keeps : List ℕ → ℕ → ℕ → Type 0
 Keeps list kept k = (t : ℕ) × (0 ≤ t) × (t < kept) × (get_or list t 0 ≡ k)

@@ -19,3 +19,8 @@ IsClear t = (p : ℕ) → p < 64 → bit t.wave p ≡ 0
 abbrev pub AreListed : List ℕ → ℕ → ℕ → (ℕ → Tile) → Type 0
 AreListed list from end τ =
     (m : ℕ) → IsClear (τ m) ⊎ ((t : ℕ) × (from ≤ t) × (t < end) × (slice_index list t ≡ m))
+
+-- the first tiles of a list are among the first n, and among them is each tile with a site that has toppled
+pub record AreKept (n : ℕ) (list : List ℕ) (kept : ℕ) (τ : ℕ → Tile) : Type 0 where
+  pub listed : AreListed list 0 kept τ
+  pub on_board : (t : ℕ) → t < kept → slice_index list t < n

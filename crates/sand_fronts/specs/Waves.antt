@@ -69,6 +69,10 @@ pub record IsBeside (g : Grid) (k : ℕ) (b : Beside) : Type 0 where
   pub west_shift : b.west_shift ≡ shift_west g k
   pub east_shift : b.east_shift ≡ shift_east g k
 
+-- the same on a grid with open edges, in which a row has `row` tiles
+abbrev pub open_beside : ℕ → ℕ → Beside
+open_beside row k = record { north = k - row; south = k + row; west = k - 1; east = k + 1; west_shift = 7; east_shift = 7 }
+
 -- what a visit makes of a tile, and the places that topple in it
 pub record Visited (t : Tile) (free start : ℕ) : Type 0 where
   pub tile : Tile

@@ -1,17 +1,18 @@
 //! The tiles of a grid without their sand: which of their places are free, and which tiles are next to each other.
 
-ghost use Rattle.std.specs.Prelude.{◌≡◌, ℕ, ◌+◌, ◌*◌, ◌^◌, ◌<◌, length, IfOk};
+ghost use Rattle.std.specs.Prelude.{◌≡◌, ℕ, ◌+◌, ◌*◌, ◌^◌, ◌<◌, length, IfOk, true};
 ghost use Rattle.sand_model.specs.Grid.{missing};
+ghost use Rattle.sand_model.specs.declared.shape.Edge.TheVariants.{Open};
 ghost use Rattle.sand_tiles.specs.Places.{number};
 ghost use Rattle.sand_fronts.specs.Tiling.{tiles, on_tiles};
-ghost use Rattle.sand_fronts.specs.Waves.{tile_at, AreAllOpen};
+ghost use Rattle.sand_fronts.specs.Waves.{tile_at, beside_at, AreAllOpen, AtTile};
 ghost use Rattle.sand_fronts.specs.Drops.{AreOutside};
 ghost use Rattle.sand_fronts.specs.Boards.{free_of, IsBoard};
 
 use crate::filling::{is_inner, tile_of};
 use crate::reach::Spot;
-use crate::sides::{Beside, all_sides};
-use crate::tiling::{all_open, tiles};
+use crate::sides::{Beside, all_sides, open_sides};
+use crate::tiling::{all_open, pitch, tiles};
 use sand_model::Shape;
 use sand_tiles::{BARE, Tile};
 use std::alloc::{AllocError, Global};
@@ -90,5 +91,21 @@ impl Board {
             beside,
             outside,
         })
+    }
+
+    /// The neighbours of a tile with sites. If `is_open` is known to the compiler, so are the shifts of an open grid, for
+    /// which no table is read.
+    #[inline(always)]
+    pub(crate) fn beside(&self, k: usize, is_open: bool) -> Beside
+        requires board { IsBoard self.now }
+        requires tile { AtTile self.now.shape k (beside_at self.now.beside.items k) }
+        requires edge { is_open ≡ true → self.now.shape.edge ≡ Open }
+        ensures { result ≡ beside_at self.now.beside.items k }
+    {
+        if is_open {
+            open_sides(pitch(self.shape), k)
+        } else {
+            self.beside[k]
+        }
     }
 }

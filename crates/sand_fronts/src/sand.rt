@@ -25,18 +25,19 @@
 //! added to tiles that nobody reads. On a cylinder the tiles at the two ends of a row are neighbours, and the last
 //! column of the grid need not be the last of its tile: hence the shifts of `Beside`.
 
-ghost use Rattle.std.specs.Prelude.{◌≡◌, ◌≢◌, ℕ, ◌+◌, ◌<◌, ◌≤◌, length, slice_index};
+ghost use Rattle.std.specs.Prelude.{◌≡◌, ◌≢◌, ℕ, ◌+◌, ◌<◌, ◌≤◌, length, slice_index, true};
 ghost use Rattle.sand_model.specs.IndexLists.{Joins};
+ghost use Rattle.sand_model.specs.declared.shape.Edge.TheVariants.{Open};
 ghost use Rattle.sand_tiles.specs.Places.{bit, IsReady};
 ghost use Rattle.sand_fronts.specs.Tiling.{tiles};
-ghost use Rattle.sand_fronts.specs.TileLists.{but, waits, AreListed};
+ghost use Rattle.sand_fronts.specs.TileLists.{but, waits, AreListed, AreKept};
 ghost use Rattle.sand_fronts.specs.Waves.{only, AreOpen, AreAtRest, AtTile, IsOnBoard, IsDropSite, IsWholeWave, beside_at, over_rim, tile_at, AreVisited, Steps, PairSteps};
 ghost use Rattle.sand_fronts.specs.Boards.{tiles_of, free_of, IsBoard, IsSand, Gets};
 
 use crate::board::{Board, DropSite};
 use crate::sides::Beside;
 use core::mem::replace_with;
-use sand_model::IndexList;
+use sand_model::{Edge, IndexList};
 use sand_tiles::{Tile, receive, set_of, visit, visit_pair};
 
 // The first column of a tile.
@@ -102,8 +103,9 @@ impl Sand {
 
     // Visits a tile, and hands over the grains that leave it.
     #[inline(always)]
-    fn topple_tile(&mut self, board: &Board, k: usize, start: u64)
+    fn topple_tile(&mut self, board: &Board, is_open: bool, k: usize, start: u64)
         requires board { IsBoard board.now }
+        requires edge { is_open ≡ true → board.now.shape.edge ≡ Open }
         requires sand { IsSand board.now.shape self.old }
         requires tile { AtTile board.now.shape k (beside_at board.now.beside.items k) }
         requires ready { IsReady (tiles_of self.old k) (free_of board.now k) start }
@@ -115,13 +117,14 @@ impl Sand {
             (waits (tiles_of self.new)) self.old.list self.new.list }
     {
         let new = visit(&mut self.tiles[k], board.free[k], start);
-        self.hand_over(board, &board.beside[k], new);
+        self.hand_over(board, &board.beside(k, is_open), new);
     }
 
     // Visits two tiles side by side, and only then hands over the grains that leave them.
     #[inline(always)]
-    fn topple_pair(&mut self, board: &Board, j: usize, k: usize)
+    fn topple_pair(&mut self, board: &Board, is_open: bool, j: usize, k: usize)
         requires board { IsBoard board.now }
+        requires edge { is_open ≡ true → board.now.shape.edge ≡ Open }
         requires sand { IsSand board.now.shape self.old }
         requires different { j ≢ k }
         requires tile { AtTile board.now.shape j (beside_at board.now.beside.items j) }
@@ -142,8 +145,8 @@ impl Sand {
             board.free[j],
             board.free[k],
         );
-        self.hand_over(board, &board.beside[j], new_one);
-        self.hand_over(board, &board.beside[k], new_two);
+        self.hand_over(board, &board.beside(j, is_open), new_one);
+        self.hand_over(board, &board.beside(k, is_open), new_two);
     }
 
     /// One wave: the dropped site topples, then each other site that this brings to 4, once each. Lists their tiles.
@@ -159,30 +162,35 @@ impl Sand {
         ensures on_board { (t : ℕ) → t < length self.new.list.items
             → slice_index self.new.list.items t < tiles board.now.shape }
     {
-        replace_with(self, (board, drop), topple_turns)
+        match board.shape.edge() {
+            Edge::Open => replace_with(self, (), |sand, ()| {
+                (topple_turns(sand, board, drop, true), ())
+            }),
+            Edge::Cylinder => replace_with(self, (), |sand, ()| {
+                (topple_turns(sand, board, drop, false), ())
+            }),
+        }
     }
 }
 
 // The same on sand that it owns, so that the compiler keeps the length of the list in a register: behind a reference it
-// would be read again after each grain.
+// would be read again after each grain. Compiled once for each edge.
 #[inline(always)]
-fn topple_turns(sand: Sand, given: (&Board, DropSite)) -> (Sand, ())
-    requires drop { IsDropSite given.0.now.shape given.1 }
-    requires board { IsBoard given.0.now }
-    requires sand { IsSand given.0.now.shape sand }
-    requires all_open { AreOpen given.0.now.shape given.1.site (free_of given.0.now) }
-    requires rest { AreAtRest given.0.now.shape given.1.site (tiles_of sand) }
-    ensures wave { IsWholeWave given.entry.0.now.shape given.entry.1.site (tiles_of sand) (tiles_of result.0) }
-    ensures sand { IsSand given.entry.0.now.shape result.0 }
-    ensures listed { AreListed result.0.list.items 0 (length result.0.list.items) (tiles_of result.0) }
-    ensures on_board { (t : ℕ) → t < length result.0.list.items
-        → slice_index result.0.list.items t < tiles given.entry.0.now.shape }
+fn topple_turns(sand: Sand, board: &Board, drop: DropSite, is_open: bool) -> Sand
+    requires drop { IsDropSite board.now.shape drop }
+    requires board { IsBoard board.now }
+    requires edge { is_open ≡ true → board.now.shape.edge ≡ Open }
+    requires sand { IsSand board.now.shape sand }
+    requires all_open { AreOpen board.now.shape drop.site (free_of board.now) }
+    requires rest { AreAtRest board.now.shape drop.site (tiles_of sand) }
+    ensures wave { IsWholeWave board.now.shape drop.site (tiles_of sand) (tiles_of result) }
+    ensures sand { IsSand board.now.shape result }
+    ensures kept { AreKept (tiles board.now.shape) result.list.items (length result.list.items) (tiles_of result) }
 {
     let mut sand = sand;
-    let (board, drop) = given;
     sand.list.clear();
     sand.list.push_if(drop.tile, true);
-    sand.topple_tile(board, drop.tile, set_of(drop.place));
+    sand.topple_tile(board, is_open, drop.tile, set_of(drop.place));
     let (mut position, mut kept) = (1usize, 1usize);
     'turns: while position < sand.list.len() {
         let k = sand.list.item(position);
@@ -192,14 +200,14 @@ fn topple_turns(sand: Sand, given: (&Board, DropSite)) -> (Sand, ())
             let other_first = sand.tiles[other].wave == 0;
             kept = sand.list.keep_if(kept, k, first);
             kept = sand.list.keep_if(kept, other, other_first);
-            sand.topple_pair(board, k, other);
+            sand.topple_pair(board, is_open, k, other);
             position += 2;
         } else {
             kept = sand.list.keep_if(kept, k, first);
-            sand.topple_tile(board, k, 0);
+            sand.topple_tile(board, is_open, k, 0);
             position += 1;
         }
     }
     sand.list.truncate(kept);
-    (sand, ())
+    sand
 }

@@ -1,8 +1,19 @@
--- Balance and the bound on topplings after steps that topple nothing.
-use Rattle.std.proofs.Common.{◌≡◌, ℕ, ◌+◌, ◌*◌, ◌<◌, ◌≤◌, arith}
+-- All grains of a start and its drops; balance and the bound on topplings after steps that topple nothing.
+use Rattle.std.proofs.Common.{◌≡◌, ℕ, ◌+◌, ◌*◌, ◌<◌, ◌≤◌, List, All, length, sum, arith}
 use Rattle.sand_model.specs.Grid.{Grid, sites}
-use Rattle.sand_model.specs.Sand.{flow, IsToppled, Stabilises}
+use Rattle.sand_model.specs.Sand.{flow, grains, occurrences, IsToppled, Stabilises}
+use Rattle.sand_model.specs.Piles.{PileView, IsPile, height_of}
+use Rattle.sand_model.proofs.SumsBelow.{sum_below-add}
+use Rattle.sand_model.proofs.Occurrences.{sum_below-occurrences}
+use Rattle.sand_model.proofs.Heights.{sum_is_grains}
 use Rattle.sand_model.proofs.Flow.{flow_same, flow-scale}
+
+pub grains_in_all : (start : PileView) (drops : List ℕ) → IsPile start → All (λ i. i < sites start.grid) drops
+    → grains start.grid (λ i. height_of start i + occurrences drops i) ≡ sum start.heights + length drops
+grains_in_all start drops pile inside =
+    let both = sum_below-add (sites start.grid) (height_of start) (occurrences drops) in
+    let mine = sum_is_grains start.grid start.heights pile.len in
+    let dropped = sum_below-occurrences (sites start.grid) drops inside in omega arith
 
 -- the drawn grains and those present grow by the same amount at each site
 pub balance_kept : (g : Grid) (s u r s' u' r' : ℕ → ℕ) → ((i : ℕ) → u' i ≡ u i)

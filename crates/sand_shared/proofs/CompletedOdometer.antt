@@ -1,11 +1,10 @@
 -- The counts of a whole pass plus the odometer of the settled rest are the least odometer of the start and all drops.
-use Rattle.std.proofs.Common.{◌≡◌, ℕ, ◌+◌, ◌*◌, ◌<◌, ◌≤◌, List, length, sum, sym, refl, ap, ◌∙◌, subst, arith}
+use Rattle.std.proofs.Common.{◌≡◌, ℕ, ◌+◌, ◌≤◌, List, length, sum, refl, ap, ◌∙◌, subst, arith}
 use Rattle.std.specs.Prelude.{slice_index}
 use Rattle.sand_model.specs.Grid.{Grid, sites}
 use Rattle.sand_model.specs.Sand.{IsSettled, IsUnderway, IsToppled, grains, occurrences, topplings as topplings_of, lost as lost_of}
 use Rattle.sand_model.specs.Piles.{PileView, height_of, most_grains}
-use Rattle.sand_model.proofs.SumsBelow.{sum_below_same, sum_below-add}
-use Rattle.sand_model.proofs.Occurrences.{sum_below-occurrences}
+use Rattle.sand_model.proofs.SumsBelow.{sum_below_same}
 use Rattle.sand_model.proofs.Heights.{sum_is_grains}
 use Rattle.sand_model.proofs.Bounds.{topplings_bound, at_most_sum_below}
 use Rattle.sand_model.proofs.Sandpile.{laplacian_sum, settles_after, settled_same}
@@ -21,6 +20,7 @@ use Rattle.sand_shared.specs.Running.{Stands}
 use Rattle.sand_shared.specs.Seats.{HasAll}
 use Rattle.sand_shared.specs.Sweeps.{IsRestOf, start_and_receipts}
 use Rattle.sand_shared.proofs.LastPileIsSettled.{HasGathered, gathers_all, gathered_history, toppled_is}
+use Rattle.sand_shared.proofs.Lawfulness.{few_grains}
 use Rattle.sand_shared.proofs.PassKnowsPile.{knows_all, stands_sparing}
 use Rattle.sand_shared.proofs.WholeHasAll.{whole_counts}
 
@@ -31,10 +31,7 @@ module _ {t : Terms} {a : ℕ} {v : View} (s : Stands t a v) (all : HasAll t v) 
       let p = s.pile in
       let same = sum_below_same (sites g) (start_and_receipts t v)
       (start_and_drawn t p) (λ i _. let d = (knows_all s all).drops i in omega arith) in
-      let parts = sum_below-add (sites g) (height_of t.start) (occurrences p.drawn) in
-      let start = sum_is_grains g t.start.heights s.terms.pile.len in
-      let drops = sum_below-occurrences (sites g) p.drawn s.lawful.all_sites in
-      omega arith
+      let all = few_grains t p s.terms s.lawful in omega arith
 
   pub left_few : (u : ℕ → ℕ) (heights : List ℕ)
       → length heights ≡ sites (grid_of_terms t)

@@ -1,18 +1,19 @@
 -- Grains at one site, and what a toppling sends to the neighbours.
-use Rattle.std.proofs.Common.{◌≡◌, ℕ, ◌+◌, ◌-◌, ◌*◌, ◌<◌, ◌≤◌, ◌≢◌, List, ◌∷◌, ◌++◌, length, ltb, leb, true, false, sym, ap, ◌∙◌, subst, ⊎_elim, arith}
+use Rattle.std.proofs.Common.{◌≡◌, ℕ, ◌+◌, ◌-◌, ◌*◌, ◌<◌, ◌≤◌, ◌≢◌, List, ◌∷◌, ◌++◌, length, ltb, leb, true, false, refl, sym, ap, ◌∙◌, ⊎_elim, arith}
 use Rattle.std.specs.Prelude.{slice_index, ◌&&◌}
-use Rattle.std.proofs.lemmas.Bool.{cases_eq, cases_lt, eq-eqb, ne_eqb}
+use Rattle.std.proofs.lemmas.Bool.{cases_lt, eq-eqb, ne_eqb}
 use Rattle.std.proofs.lemmas.Bool.Decides.{nat_tests}
-use Rattle.std.proofs.lemmas.List.{get_or-set_same, get_or-set_other, length-set}
+use Rattle.std.proofs.lemmas.List.{length-set}
 use Rattle.std.proofs.lemmas.List.Sums.{sum_by-cons, sum_by-append}
 use Rattle.sand_model.specs.Grid.{Grid, sites, neighbours}
 use Rattle.sand_model.specs.Sand.{flow, one_at}
 use Rattle.sand_model.proofs.Flow.{flow_same, flow-scale, flow-one_at}
+use Rattle.sand_model.proofs.Heights.{counted}
 use Rattle.sand_shared.specs.declared.view.Grains.{Grains}
 use Rattle.sand_shared.specs.declared.view.View.{View}
 use Rattle.sand_shared.specs.declared.view.Terms.{Terms}
 use Rattle.sand_shared.specs.OpenPile.{grid_of_terms, amount_at, held, holds_site, toppled_by}
-use Rattle.sand_shared.specs.Events.{grains_for, sent, unloaded}
+use Rattle.sand_shared.specs.Events.{grains_for, sent, raised, unloaded}
 use Rattle.sand_shared.proofs.SumsOverPasses.{sum_by-map}
 
 pub amount_here : (i k j : ℕ) → i ≡ j → amount_at i k j ≡ k
@@ -55,31 +56,26 @@ toppled_from v i le = let t : leb v.base i ≡ true = grind (arith, nat_tests) i
 pub toppled_before : (v : View) (i : ℕ) → i < v.base → toppled_by v i ≡ 0
 toppled_before v i lt = let t : leb v.base i ≡ false = grind (arith, nat_tests) in rw t
 
+same_place : (i j b : ℕ) → b ≤ i → b ≤ j → one_at (i - b) (j - b) ≡ one_at i j
+same_place i j b li lj = grind (arith, nat_tests)
+
 -- a site has toppled k more times if a pass has toppled it k more times
 pub toppled-unloaded : (t : Terms) (v : View) (i k j : ℕ) → holds_site v i ≡ true
     → toppled_by (unloaded t v i k) j ≡ toppled_by v j + amount_at i k j
-toppled-unloaded t v i k j own =
-    let at = place_inside v i own in
-    let n = slice_index v.counts (i - v.base) in
-    ⊎_elim
-    (λ (e : i ≡ j).
-    let a = toppled_from (unloaded t v i k) i at.0 in
-    let b = toppled_from v i at.0 in
-    let c = get_or-set_same v.counts (i - v.base) (n + k) 0 at.1 in
-    let d = amount_here i k j e in
-    let hit : toppled_by (unloaded t v i k) i ≡ toppled_by v i + k = omega arith in
-    subst (λ z. toppled_by (unloaded t v i k) z ≡ toppled_by v z + amount_at i k j) e (omega arith))
-    (λ (ne : i ≡ j → ⊥).
-    let d = amount_else i k j ne in
-    ⊎_elim
+toppled-unloaded t v i k j own = ⊎_elim
     (λ (below : j < v.base).
-    let a = toppled_before (unloaded t v i k) j below in let b = toppled_before v j below in omega arith)
+    let from = place_inside v i own in
+    let a = toppled_before (unloaded t v i k) j below in
+    let b = toppled_before v j below in
+    let c = amount_else i k j (λ e. absurd (omega arith)) in omega arith)
     (λ (past : v.base ≤ j).
+    let at = place_inside v i own in
     let a = toppled_from (unloaded t v i k) j past in
     let b = toppled_from v j past in
-    let c = get_or-set_other v.counts (i - v.base) (j - v.base) (n + k) 0 (λ e. ne (omega arith)) in omega arith)
-    (cases_lt j v.base))
-    (cases_eq i j)
+    let c = counted (i - v.base) k v.counts (raised v i k) at.1 refl (j - v.base) in
+    let d = amount_is i k j in
+    let e = ap (λ z. k * z) (same_place i j v.base at.0 past) in omega arith)
+    (cases_lt j v.base)
 
 pub holds-unloaded : (t : Terms) (v : View) (i k j : ℕ) → holds_site (unloaded t v i k) j ≡ holds_site v j
 holds-unloaded t v i k j = ap (λ n. leb v.base j && ltb j (v.base + n))

@@ -1,6 +1,6 @@
 -- A pass that has gathered everything: its history and its record. If it has swept until nothing toppled, the heights of
 -- the last open pile are the settled pile of the start and all drops, and its counts are the least odometer.
-use Rattle.std.proofs.Common.{◌≡◌, ℕ, ◌+◌, ◌-◌, ◌*◌, ◌<◌, ◌≤◌, List, [], All, length, sum, sym, refl, ap, ◌∙◌, subst, arith}
+use Rattle.std.proofs.Common.{◌≡◌, ℕ, ◌+◌, ◌-◌, ◌<◌, ◌≤◌, List, All, length, sum, sym, refl, ap, ◌∙◌, subst, arith}
 use Rattle.std.specs.Prelude.{slice_index}
 use Rattle.atomic_table.specs.Table.{Me}
 use Rattle.sand_model.specs.Grid.{sites}

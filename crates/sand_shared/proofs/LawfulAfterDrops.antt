@@ -11,7 +11,7 @@ use Rattle.sand_shared.specs.declared.view.View.{View}
 use Rattle.sand_shared.specs.declared.view.Receipt.{Receipt}
 use Rattle.sand_shared.specs.declared.view.Terms.{Terms}
 use Rattle.sand_shared.specs.OpenPile.{OpenPile, nobody, grid_of_terms, amount_at, numbered, receipts_for, held, holds_site, toppled_by, toppled, start_and_drawn, present, pass_at, IsLawfulPass, IsLawful}
-use Rattle.sand_shared.specs.Events.{draw, place, deliver, drew, receipt, grains_for, are_for, without, arrived, May, after}
+use Rattle.sand_shared.specs.Events.{draw, drew, receipt, grains_for, are_for, without, arrived, May, after}
 use Rattle.sand_shared.proofs.SumsOverPasses.{sum_by_kept}
 use Rattle.sand_shared.proofs.GrainsAtSite.{held-append}
 use Rattle.sand_shared.proofs.HandAfterPlacing.{held-without}

@@ -1,18 +1,15 @@
 -- Each event keeps the pile lawful, so any list of events does.
 use Rattle.std.proofs.Common.{length, ◌≡◌, ℕ, ◌+◌, ◌<◌, ◌≤◌, List, [], ◌∷◌, ◌++◌, sum, sum_by, refl, ap, arith}
 use Rattle.sand_model.specs.Grid.{sites}
-use Rattle.sand_model.specs.Sand.{occurrences}
-use Rattle.sand_model.specs.Piles.{height_of}
+use Rattle.sand_model.specs.Sand.{grains}
 use Rattle.sand_model.specs.Lists.{one_if}
-use Rattle.sand_model.proofs.SumsBelow.{sum_below-add}
-use Rattle.sand_model.proofs.Occurrences.{sum_below-occurrences}
 use Rattle.sand_model.proofs.Bounds.{at_most_sum_below}
-use Rattle.sand_model.proofs.Heights.{sum_is_grains}
 use Rattle.sand_model.proofs.Sandpile.{laplacian_sum}
 use Rattle.sand_shared.specs.declared.view.View.{View}
 use Rattle.sand_shared.specs.declared.view.Terms.{Terms}
 use Rattle.sand_shared.specs.OpenPile.{OpenPile, grid_of_terms, holds_site, present, start_and_drawn, toppled, AreTerms, IsLawful}
 use Rattle.sand_shared.specs.Events.{Event, begin, draw, place, count, split, join, look, unload, deliver, unopened, May, after, AllHappen, after_all}
+use Rattle.sand_shared.proofs.Balance.{grains_in_all}
 use Rattle.sand_shared.proofs.LawfulAtBegin.{some_sites, begun}
 use Rattle.sand_shared.proofs.LawfulAfterReads.{count_keeps, look_keeps}
 use Rattle.sand_shared.proofs.LawfulAfterDrops.{draw_keeps, arrived_keeps}
@@ -54,17 +51,19 @@ pub happen_append : (t : Terms) (p : OpenPile) (es fs : List Event)
 happen_append t p [] fs happen more = more
 happen_append t p (e ∷ es) fs happen more = (happen.0, happen_append t (after t p e) es fs happen.1 more)
 
--- the grains on a site and in hand for it are at most the start and the quota together
+-- all grains, also those that are lost, are at most the start and the quota together
+pub few_grains : (t : Terms) (p : OpenPile) → AreTerms t → IsLawful t p
+    → grains (grid_of_terms t) (start_and_drawn t p) ≤ sum t.start.heights + t.quota
+few_grains t p terms r = let all = grains_in_all t.start p.drawn terms.pile r.all_sites in omega arith
+
+-- so are those on a site and in hand for it
 pub few_present : (t : Terms) (p : OpenPile) → AreTerms t → IsLawful t p → (i : ℕ) → i < sites (grid_of_terms t)
     → present p i ≤ sum t.start.heights + t.quota
 few_present t p terms r i inside =
     let g = grid_of_terms t in
     let one = at_most_sum_below (sites g) (present p) i inside in
     let all = laplacian_sum g (start_and_drawn t p) (toppled p) (present p) r.balance in
-    let parts = sum_below-add (sites g) (height_of t.start) (occurrences p.drawn) in
-    let start = sum_is_grains g t.start.heights terms.pile.len in
-    let drops = sum_below-occurrences (sites g) p.drawn r.all_sites in
-    let quota = r.quota in omega arith
+    let few = few_grains t p terms r in omega arith
 
 pub few_drawn : (t : Terms) (p : OpenPile) → IsLawful t p → length p.drawn ≤ t.quota
 few_drawn t p r = omega arith

@@ -6,9 +6,7 @@ use Rattle.std.proofs.lemmas.List.Sums.{get_or-le-sum_by}
 use Rattle.sand_model.specs.Grid.{sites, neighbours}
 use Rattle.sand_model.specs.Sand.{occurrences, flow, grain_weight, IsToppled}
 use Rattle.sand_model.specs.Piles.{height_of}
-use Rattle.sand_model.proofs.SumsBelow.{sum_below_same, sum_below_le, sum_below-add}
-use Rattle.sand_model.proofs.Occurrences.{sum_below-occurrences}
-use Rattle.sand_model.proofs.Heights.{sum_is_grains}
+use Rattle.sand_model.proofs.SumsBelow.{sum_below_same, sum_below_le}
 use Rattle.sand_model.proofs.Flow.{flow_same}
 use Rattle.sand_model.proofs.Sandpile.{weight_after}
 use Rattle.sand_model.proofs.Bounds.{topplings_bound}
@@ -24,7 +22,7 @@ use Rattle.sand_shared.proofs.SumsOverPasses.{sum_by_two, sum_by_only, sum_by_no
 use Rattle.sand_shared.proofs.Balance.{flow_none, stabilises_fewer}
 use Rattle.sand_shared.proofs.OneHolder.{toppled_outside, others_without, own_toppled}
 use Rattle.sand_shared.proofs.SumOfCounts.{sum_counts}
-use Rattle.sand_shared.proofs.Lawfulness.{event_keeps}
+use Rattle.sand_shared.proofs.Lawfulness.{event_keeps, few_grains}
 use Rattle.sand_shared.proofs.ReceiptsTellHistory.{one_below}
 use Rattle.std.proofs.lemmas.List.{nil_from_length}
 use Rattle.std.proofs.Math.Seq.{lt-length-set}
@@ -64,9 +62,7 @@ module _ (t : Terms) (p : OpenPile) (r : IsLawful t p) (a : ℕ) (there : a < le
   few terms fits =
       let g = grid_of_terms t in
       let v = pass_at p a in
-      let parts = sum_below-add (sites g) (height_of t.start) (occurrences p.drawn) in
-      let start = sum_is_grains g t.start.heights terms.pile.len in
-      let drops = sum_below-occurrences (sites g) p.drawn r.all_sites in
+      let all = few_grains t p terms r in
       let bound =
       topplings_bound g (start_and_drawn t p) (toppled p) (present p) terms.pile.grid (omega arith) r.balance in
       let mine = sum_below_le (sites g) (toppled_by v) (toppled p)

@@ -7,15 +7,16 @@ use Rattle.std.proofs.lemmas.Bool.{cases_lt}
 use Rattle.std.proofs.lemmas.List.Sums.{get_or-le-sum_by}
 use Rattle.std.proofs.lemmas.List.Elements.{All-append}
 use Rattle.sand_model.specs.Grid.{Grid, sites, missing}
-use Rattle.sand_model.specs.Sand.{IsSettled, grains, lost, occurrences, topplings}
+use Rattle.sand_model.specs.Sand.{IsSettled, lost, occurrences, topplings}
 use Rattle.sand_model.specs.Piles.{PileView, IsPile, height_of, most_grains}
 use Rattle.sand_model.proofs.SumsBelow.{sum_below-add, sum_below_same}
-use Rattle.sand_model.proofs.Occurrences.{sum_below-occurrences, occurrences-append}
+use Rattle.sand_model.proofs.Occurrences.{occurrences-append}
 use Rattle.sand_model.proofs.Heights.{sum_is_grains}
 use Rattle.sand_model.proofs.Sandpile.{laplacian_sum, settled_in_parts}
 use Rattle.sand_model.proofs.Bounds.{topplings_bound}
 use Rattle.sand_settle.specs.Settling.{SettledView, IsSettledRecord, IsSomeSettledRecord, odometer_of}
 use Rattle.sand_shared.specs.Record.{RecordView, IsOneThreads}
+use Rattle.sand_shared.proofs.Balance.{grains_in_all}
 
 -- a start and a history, with the heights and the odometer that they lead to
 pub record LeadsTo (start : PileView) (history heights odometer : List ℕ) : Type 0 where
@@ -28,17 +29,10 @@ pub record LeadsTo (start : PileView) (history heights odometer : List ℕ) : Ty
       (slice_index odometer) (slice_index heights)
 
 module _ {start : PileView} {history heights odometer : List ℕ} (l : LeadsTo start history heights odometer) where
-  grains_in : grains start.grid (λ i. height_of start i + occurrences history i) ≡ sum start.heights + length history
-  grains_in =
-      let g = start.grid in
-      let parts = sum_below-add (sites g) (height_of start) (occurrences history) in
-      let a = sum_is_grains g start.heights l.pile.len in
-      let b = sum_below-occurrences (sites g) history l.all_sites in omega arith
-
   pub few_topplings : sum odometer < 2 ^ 54
   few_topplings =
       let g = start.grid in
-      let all = grains_in in
+      let all = grains_in_all start history l.pile l.all_sites in
       let bound = topplings_bound g (λ i. height_of start i + occurrences history i)
       (slice_index odometer) (slice_index heights) l.pile.grid (omega arith) l.settled.toppled in
       let counts = sum_is_grains g odometer l.odometer_each in omega arith
@@ -47,7 +41,7 @@ module _ {start : PileView} {history heights odometer : List ℕ} (l : LeadsTo s
   pub grains_left : sum start.heights + length history ≡ sum heights + lost start.grid (slice_index odometer)
   grains_left =
       let g = start.grid in
-      let all = grains_in in
+      let all = grains_in_all start history l.pile l.all_sites in
       let out = laplacian_sum g (λ i. height_of start i + occurrences history i)
       (slice_index odometer) (slice_index heights) l.settled.toppled in
       let after = sum_is_grains g heights l.heights_each in omega arith

@@ -4,7 +4,6 @@ use Rattle.std.specs.Prelude.{slice_index, count_by, ◌||◌}
 use mathlib.Core.Option.{some, some-injective, some-ne-none}
 use lib.ListN.{get_elem?}
 use lib.Seq.{set-get_or}
-use Rattle.std.proofs.lemmas.List.{get_or-set_other, length-set}
 use Rattle.atomic_table.specs.Table.{State, Me, keeps, Allows, Splits, Joins, opening}
 use Rattle.atomic_table.proofs.Lists.{set_else}
 use Rattle.sand_model.specs.Grid.{sites}

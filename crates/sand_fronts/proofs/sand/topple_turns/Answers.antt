@@ -21,47 +21,47 @@ use Rattle.sand_fronts.proofs.sand.topple_turns.Goals.{After-set_of, After-push_
 use Rattle.sand_fronts.proofs.sand.topple_turns.Goals as goal
 
 pub set_of-requires : goal.set_of-requires
-set_of-requires c = let low = place_below c.args.given.0.now.shape c.args.given.1.site in omega (arith, c.requires.drop.place)
+set_of-requires c = let low = place_below c.args.board.now.shape c.args.drop.site in omega (arith, c.requires.drop.place)
 
 -- the first turn: that of the dropped site's tile
 starts : (c : After-set_of) → (p : ℕ) → p < 64 → bit c.set_of.result p
-    ≡ on_tiles c.args.given.0.now.shape (λ j. 1 * one_at c.args.given.1.site j) c.args.given.1.tile p
+    ≡ on_tiles c.args.board.now.shape (λ j. 1 * one_at c.args.drop.site j) c.args.drop.tile p
 starts c =
-    start_of c.args.given.0.now.shape c.args.given.1.site c.args.given.1.tile c.set_of.result c.requires.drop.inside
+    start_of c.args.board.now.shape c.args.drop.site c.args.drop.tile c.set_of.result c.requires.drop.inside
     c.requires.drop.tile (λ p low. c.set_of.ensures p low ∙ ap (λ q. one_at q p) c.requires.drop.place)
 
 first_list : (c : After-push_if)
-    → c.push_if.new.self ≡ record { items = c.args.given.1.tile ∷ []; room = c.args.sand.list.room }
+    → c.push_if.new.self ≡ record { items = c.args.drop.tile ∷ []; room = c.args.sand.list.room }
 first_list c = c.push_if.ensures
-    ∙ ap (λ (l : ListView). record { items = l.items ++ c.args.given.1.tile ∷ []; room = l.room }) c.clear.ensures
+    ∙ ap (λ (l : ListView). record { items = l.items ++ c.args.drop.tile ∷ []; room = l.room }) c.clear.ensures
 
 pub topple_tile-requires-clause-tile : goal.topple_tile-requires-clause-tile
 topple_tile-requires-clause-tile c =
-    at_tile c.args.given.0.now.shape c.args.given.1.site c.args.given.1.tile c.args.given.0.now.beside.items
+    at_tile c.args.board.now.shape c.args.drop.site c.args.drop.tile c.args.board.now.beside.items
     c.requires.board.beside c.requires.drop.inside (sym c.requires.drop.tile)
 
 pub topple_tile-requires-clause-ready : goal.topple_tile-requires-clause-ready
 topple_tile-requires-clause-ready c =
-    let g = c.args.given.0.now.shape in
-    let site = c.args.given.1.site in
+    let g = c.args.board.now.shape in
+    let site = c.args.drop.site in
     let τ = tiles_of c.args.sand in
-    wave_ready c.args.given.1.tile c.set_of.result 1 (wave_start (free_of c.args.given.0.now) τ c.requires.all_open c.requires.drop.inside)
+    wave_ready c.args.drop.tile c.set_of.result 1 (wave_start (free_of c.args.board.now) τ c.requires.all_open c.requires.drop.inside)
     (first_wave g site τ c.requires.rest c.requires.drop.inside) (starts c) (let z = clear_site g site τ c.requires.rest in omega arith)
 
 pub turns-init : goal.turns-init
 turns-init c =
-    let g = c.args.given.0.now.shape in
-    let site = c.args.given.1.site in
-    let k = c.args.given.1.tile in
+    let g = c.args.board.now.shape in
+    let site = c.args.drop.site in
+    let k = c.args.drop.tile in
     let n = tiles g in
     let τ = tiles_of c.args.sand in
     let σ = tiles_of c.topple_tile.new.self in
-    let free = free_of c.args.given.0.now in
+    let free = free_of c.args.board.now in
     let list = c.topple_tile.new.self.list.items in
-    let b = at_tile g site k c.args.given.0.now.beside.items c.requires.board.beside c.requires.drop.inside
+    let b = at_tile g site k c.args.board.now.beside.items c.requires.board.beside c.requires.drop.inside
     (sym c.requires.drop.tile) in
     let steps = c.topple_tile.ensures.steps in
-    let first = turn_first (wave_start (free_of c.args.given.0.now) τ c.requires.all_open c.requires.drop.inside) c.requires.rest c.requires.drop.tile
+    let first = turn_first (wave_start (free_of c.args.board.now) τ c.requires.all_open c.requires.drop.inside) c.requires.rest c.requires.drop.tile
     (starts (goal.at.turns-init c).After-set_of) b.each steps in
     let begun : ListView = record { items = k ∷ []; room = c.args.sand.list.room } in
     let joins = subst (λ (l : ListView). Joins n 4 (but k (waits τ)) (waits σ) l c.topple_tile.new.self.list)
@@ -83,27 +83,27 @@ turns-init c =
 
 -- a tile that waits has a site that is due, its neighbours' places are on the board, and it is ready for a visit
 at_turn : (c : After-item-k) (k : ℕ) → waits (tiles_of c.turns.sand) k ≡ true → (j : ℕ)
-    × IsDueSite c.args.given.0.now.shape c.args.given.1.site (tiles_of c.turns.sand) k j
-    × AtTile c.args.given.0.now.shape k (beside_at c.args.given.0.now.beside.items k)
+    × IsDueSite c.args.board.now.shape c.args.drop.site (tiles_of c.turns.sand) k j
+    × AtTile c.args.board.now.shape k (beside_at c.args.board.now.beside.items k)
 at_turn c k wait =
-    let g = c.args.given.0.now.shape in
-    let d = due_site g c.args.given.1.site (free_of c.args.given.0.now) (tiles_of c.turns.sand) k c.requires.all_open
+    let g = c.args.board.now.shape in
+    let d = due_site g c.args.drop.site (free_of c.args.board.now) (tiles_of c.turns.sand) k c.requires.all_open
     c.turns.invariant.due_free wait in
-    (d.0, d.1, at_tile g d.0 k c.args.given.0.now.beside.items c.requires.board.beside d.1.inside d.1.here)
+    (d.0, d.1, at_tile g d.0 k c.args.board.now.beside.items c.requires.board.beside d.1.inside d.1.here)
 
-from : (c : After-item-k) → IsStart c.args.given.0.now.shape c.args.given.1.site
-    (heights_before c.args.given.0.now.shape c.args.given.1.site (tiles_of c.args.sand)) (free_of c.args.given.0.now)
-from c = wave_start (free_of c.args.given.0.now) (tiles_of c.args.sand) c.requires.all_open c.requires.drop.inside
+from : (c : After-item-k) → IsStart c.args.board.now.shape c.args.drop.site
+    (heights_before c.args.board.now.shape c.args.drop.site (tiles_of c.args.sand)) (free_of c.args.board.now)
+from c = wave_start (free_of c.args.board.now) (tiles_of c.args.sand) c.requires.all_open c.requires.drop.inside
 
-ready : (c : After-item-k) (k : ℕ) → IsReady (tiles_of c.turns.sand k) (free_of c.args.given.0.now k) 0
+ready : (c : After-item-k) (k : ℕ) → IsReady (tiles_of c.turns.sand k) (free_of c.args.board.now k) 0
 ready c k =
-    wave_ready k 0 0 (from c) c.turns.invariant.on.wave (starts_none c.args.given.0.now.shape c.args.given.1.site k)
+    wave_ready k 0 0 (from c) c.turns.invariant.on.wave (starts_none c.args.board.now.shape c.args.drop.site k)
     (omega (arith, c.turns.invariant.on.started))
 
 room : (c : After-item-k) → length c.turns.sand.list.items + 8 ≤ c.turns.sand.list.room
 room c =
-    let few = few_topplings c.args.given.0.now.shape (tiles_of c.turns.sand) in
-    let long = lists_length (tiles c.args.given.0.now.shape) (waits (tiles_of c.turns.sand))
+    let few = few_topplings c.args.board.now.shape (tiles_of c.turns.sand) in
+    let long = lists_length (tiles c.args.board.now.shape) (waits (tiles_of c.turns.sand))
     (drop c.turns.position c.turns.sand.list.items) c.turns.invariant.waiting in
     omega (
       arith,
@@ -113,12 +113,12 @@ room c =
       c.turns.invariant.within,
     )
 
-one : (c : After-item-k) → (c.item-k.result < tiles c.args.given.0.now.shape)
+one : (c : After-item-k) → (c.item-k.result < tiles c.args.board.now.shape)
     × (waits (tiles_of c.turns.sand) c.item-k.result ≡ true)
-    × Lists (tiles c.args.given.0.now.shape) (waits (tiles_of c.turns.sand))
+    × Lists (tiles c.args.board.now.shape) (waits (tiles_of c.turns.sand))
     (c.item-k.result ∷ drop (c.turns.position + 1) c.turns.sand.list.items)
 one c =
-    front_of (tiles c.args.given.0.now.shape) c.turns.position c.item-k.result
+    front_of (tiles c.args.board.now.shape) c.turns.position c.item-k.result
     (waits (tiles_of c.turns.sand)) c.turns.sand.list.items c.turns.invariant.waiting
     (omega (arith, c.turns-test.true, c.len.ensures.value)) c.item-k.ensures
 
@@ -131,11 +131,11 @@ index-requires c =
 two : (c : After-item-other) → (c.item-k.result ≢ c.item-other.result)
     × (waits (tiles_of c.turns.sand) c.item-k.result ≡ true)
     × (waits (tiles_of c.turns.sand) c.item-other.result ≡ true)
-    × Lists (tiles c.args.given.0.now.shape)
+    × Lists (tiles c.args.board.now.shape)
     (but c.item-other.result (but c.item-k.result (waits (tiles_of c.turns.sand))))
     (drop (c.turns.position + 2) c.turns.sand.list.items)
 two c =
-    front_two (tiles c.args.given.0.now.shape) c.turns.position c.item-k.result c.item-other.result
+    front_two (tiles c.args.board.now.shape) c.turns.position c.item-k.result c.item-other.result
     (waits (tiles_of c.turns.sand)) c.turns.sand.list.items c.turns.invariant.waiting
     (omega (arith, c.if-position-len.true, c.len-in-turns.ensures.value)) c.item-k.ensures c.item-other.ensures
 
@@ -203,16 +203,16 @@ topple_pair-requires-clause-room c =
 
 pub turns-smaller-then-position-len : goal.turns-smaller-then-position-len
 turns-smaller-then-position-len c =
-    let few = few_topplings c.args.given.0.now.shape (tiles_of c.turns.sand) in
+    let few = few_topplings c.args.board.now.shape (tiles_of c.turns.sand) in
     omega (arith, c.turns.invariant.on.count)
 
 pub turns-preserved-then-position-len : goal.turns-preserved-then-position-len
 turns-preserved-then-position-len c =
     let d = goal.at.turns-preserved-then-position-len c in
-    let g = c.args.given.0.now.shape in
+    let g = c.args.board.now.shape in
     let k = c.item-k.result in
     let other = c.item-other.result in
-    let free = free_of c.args.given.0.now in
+    let free = free_of c.args.board.now in
     let before = c.turns.sand.list.items in
     let after = c.topple_pair.new.self.list.items in
     let position = c.turns.position in
@@ -282,16 +282,16 @@ keep_if-kept-requires-else-position-len-clause-fits c =
 
 pub turns-smaller : goal.turns-smaller
 turns-smaller c =
-    let few = few_topplings c.args.given.0.now.shape (tiles_of c.turns.sand) in
+    let few = few_topplings c.args.board.now.shape (tiles_of c.turns.sand) in
     omega (arith, c.turns.invariant.on.count)
 
 pub turns-preserved : goal.turns-preserved
 turns-preserved c =
     let d = (goal.at.turns-preserved c).After-item-k in
-    let g = c.args.given.0.now.shape in
+    let g = c.args.board.now.shape in
     let k = c.item-k.result in
     let τ = tiles_of c.turns.sand in
-    let free = free_of c.args.given.0.now in
+    let free = free_of c.args.board.now in
     let before = c.turns.sand.list.items in
     let after = c.topple_tile-else-position-len.new.self.list.items in
     let position : c.turns.position < length before = omega (arith, c.turns-test.true, c.len.ensures.value) in
@@ -329,7 +329,7 @@ turns-preserved c =
 
 pub returns-clause-wave : goal.returns-clause-wave
 returns-clause-wave c =
-    let g = c.args.given.0.now.shape in
+    let g = c.args.board.now.shape in
     let list = c.turns.sand.list.items in
     let none : drop c.turns.position list ≡ [] =
     drop_all c.turns.position list (omega (arith, c.turns-test.false, c.len.ensures.value)) in
@@ -354,18 +354,17 @@ same_item : (c : After-truncate) (t : ℕ) → t < c.turns.kept
 same_item c t less =
     ap (λ xs. get_or xs t 0) (last_list c).0 ∙ get_or-take c.turns.kept c.turns.sand.list.items t 0 less
 
-pub returns-clause-listed : goal.returns-clause-listed
-returns-clause-listed c m =
+pub returns-clause-kept : goal.returns-clause-kept
+returns-clause-kept c =
     let long = (last_list c).1 in
-    ⊎_elim
-    (λ (clear : IsClear (tiles_of c.turns.sand m)). inl clear)
-    (λ (at : (t : ℕ) × (0 ≤ t) × (t < c.turns.kept) × (get_or c.turns.sand.list.items t 0 ≡ m)).
-    inr (at.0, at.1, omega (arith, at.2), same_item c at.0 at.2 ∙ at.3))
-    (c.turns.invariant.kept.listed m)
-
-pub returns-clause-on_board : goal.returns-clause-on_board
-returns-clause-on_board c t less =
-    let long = (last_list c).1 in
-    let same = same_item c t (omega arith) in
-    let below = c.turns.invariant.kept.on_board t (omega arith) in
-    omega arith
+    record {
+      listed = λ m. ⊎_elim
+          (λ (clear : IsClear (tiles_of c.turns.sand m)). inl clear)
+          (λ (at : (t : ℕ) × (0 ≤ t) × (t < c.turns.kept) × (get_or c.turns.sand.list.items t 0 ≡ m)).
+          inr (at.0, at.1, omega (arith, at.2), same_item c at.0 at.2 ∙ at.3))
+          (c.turns.invariant.kept.listed m);
+      on_board = λ t less.
+          let same = same_item c t (omega arith) in
+          let below = c.turns.invariant.kept.on_board t (omega arith) in
+          omega arith;
+    }

@@ -8,7 +8,7 @@ use Rattle.sand_fronts.specs.Waves.{tile_at, over_rim, AreVisited}
 use Rattle.sand_fronts.specs.TileLists.{waits}
 use Rattle.sand_fronts.specs.Tiling.{tiles}
 use Rattle.sand_fronts.specs.Boards.{free_of, Gets}
-use Rattle.sand_fronts.proofs.Gained.{beside_read, gains_from, written}
+use Rattle.sand_fronts.proofs.Gained.{gains_from, written}
 use Rattle.sand_fronts.proofs.TileLists.{gets_more, pair_waits}
 use Rattle.sand_fronts.proofs.sand.Sand.topple_pair.Goals.{After-hand_over-2}
 use Rattle.sand_fronts.proofs.sand.Sand.topple_pair.Goals as goal
@@ -39,8 +39,8 @@ visited c = subst (λ us. AreVisited c.args.self.now.tiles.items us c.args.j c.a
 
 -- what both have handed over
 both : (c : After-hand_over-2) → Gets (free_of c.args.board.now) 8
-    (λ m p. over_rim c.index-3.result.now c.visit_two-new_one.result.0 m p
-    + over_rim c.index-4.result.now c.visit_two-new_one.result.1 m p)
+    (λ m p. over_rim c.beside.result c.visit_two-new_one.result.0 m p
+    + over_rim c.beside-2.result c.visit_two-new_one.result.1 m p)
     (record c.args.self.now { tiles = with_items c.args.self.now.tiles c.visit_two-new_one.new.tiles }) c.hand_over-2.new.self
 both c = gets_more _ c.hand_over.ensures c.hand_over-2.ensures (λ m p low. refl)
 
@@ -48,7 +48,6 @@ pub returns-clause-steps : goal.returns-clause-steps
 returns-clause-steps c =
     let ts = c.args.self.now.tiles.items in
     let free = c.args.board.now.free.items in
-    let all = c.args.board.now.beside.items in
     let j = c.args.j in
     let k = c.args.k in
     let v = visited c in
@@ -58,8 +57,6 @@ returns-clause-steps c =
     let k_in = c.requires.other_tile.inside in
     let f = get_or_read free j _ (omega (arith, j_in, board.free_each)) c.index.ensures 0 in
     let h = get_or_read free k _ (omega (arith, k_in, board.free_each)) c.index-2.ensures 0 in
-    let b = beside_read all j _ (omega (arith, j_in, board.beside.len)) c.index-3.ensures in
-    let d = beside_read all k _ (omega (arith, k_in, board.beside.len)) c.index-4.ensures in
     record {
       one = record {
         tile = v.one;
@@ -73,7 +70,7 @@ returns-clause-steps c =
         visits = rw (← h) v.other_visits;
         fits = omega arith;
       };
-      gains = rw (← b, ← d) (gains_from
+      gains = rw (← c.beside.ensures, ← c.beside-2.ensures) (gains_from
           (λ m. ap (λ l. tile_at l m) v.written
           ∙ written (set ts j v.one) k m v.two within.1 ∙ ap (λ x. cond (eqb m k) v.two x) (written ts j m v.one within.0))
           (both c).gains);

@@ -3,12 +3,11 @@ use Rattle.std.proofs.Math.ListN.{set}
 use Rattle.std.proofs.lemmas.List.{length-set, get_or_read}
 use Rattle.sand_model.proofs.IndexLists.{joins_from}
 use Rattle.sand_tiles.specs.declared.tile.Tile.{Tile}
-use Rattle.sand_fronts.specs.Waves.{beside_at}
 use Rattle.sand_fronts.specs.Tiling.{tiles}
 use Rattle.sand_fronts.specs.Boards.{tiles_of, free_of}
-use Rattle.sand_fronts.proofs.Gained.{tile_read, beside_read, gains_from, written}
+use Rattle.sand_fronts.proofs.Gained.{tile_read, gains_from, written}
 use Rattle.sand_fronts.proofs.TileLists.{visited_waits}
-use Rattle.sand_fronts.proofs.sand.Sand.topple_tile.Goals.{After-index, After-index-2}
+use Rattle.sand_fronts.proofs.sand.Sand.topple_tile.Goals.{After-index, After-hand_over-arg-2-1}
 use Rattle.sand_fronts.proofs.sand.Sand.topple_tile.Goals as goal
 
 -- what the code reads
@@ -22,13 +21,8 @@ reads c =
           c.index.ensures 0,
     )
 
-reads_beside : (c : After-index-2) → c.index-2.result.now ≡ beside_at c.args.board.now.beside.items c.args.k
-reads_beside c =
-    let inside = c.requires.tile.inside in
-    beside_read c.args.board.now.beside.items c.args.k _ (omega (arith, c.requires.board.beside.len)) c.index-2.ensures
-
 -- the number of tiles, after the visit
-visited_each : (c : After-index-2)
+visited_each : (c : After-hand_over-arg-2-1)
     → length (set c.args.self.now.tiles.items c.args.k c.visit-new.new.tile) ≡ tiles c.args.board.now.shape
 visited_each c = length-set {A = Tile} c.args.self.now.tiles.items c.args.k c.visit-new.new.tile ∙ c.requires.sand.len
 
@@ -36,7 +30,7 @@ pub visit-new-requires : goal.visit-new-requires
 visit-new-requires c = let r = reads (goal.at.visit-new-requires c).After-index in rw (r.0, r.1) c.requires.ready
 
 pub hand_over-requires-clause-beside : goal.hand_over-requires-clause-beside
-hand_over-requires-clause-beside c = rw (reads_beside c, visited_each c) c.requires.tile.on_board
+hand_over-requires-clause-beside c = rw (c.beside.ensures, visited_each c) c.requires.tile.on_board
 
 pub hand_over-requires-clause-fits : goal.hand_over-requires-clause-fits
 hand_over-requires-clause-fits c = let e = visited_each c in omega (arith, c.requires.board.beside.fits)
@@ -46,14 +40,13 @@ hand_over-requires-clause-len c = c.requires.board.free_each ∙ sym (visited_ea
 
 pub returns-clause-sand : goal.returns-clause-sand
 returns-clause-sand c = record {
-  len = c.hand_over.ensures.len ∙ visited_each (goal.at.returns-clause-sand c).After-index-2;
+  len = c.hand_over.ensures.len ∙ visited_each (goal.at.returns-clause-sand c).After-hand_over-arg-2-1;
   room = omega (arith, c.hand_over.ensures.joins.room, c.requires.sand.room);
 }
 
 pub returns-clause-steps : goal.returns-clause-steps
 returns-clause-steps c =
     let r = reads (goal.at.returns-clause-steps c).After-index in
-    let s = reads_beside (goal.at.returns-clause-steps c).After-index-2 in
     record {
       visited = record {
         tile = c.visit-new.new.tile;
@@ -61,7 +54,7 @@ returns-clause-steps c =
         visits = rw (← r.0, ← r.1) c.visit-new.ensures;
         fits = omega arith;
       };
-      gains = rw (← s) (gains_from (λ m. written c.args.self.now.tiles.items c.args.k m c.visit-new.new.tile
+      gains = rw (← c.beside.ensures) (gains_from (λ m. written c.args.self.now.tiles.items c.args.k m c.visit-new.new.tile
           (omega (arith, c.requires.tile.inside, c.requires.sand.len)))
           c.hand_over.ensures.gains);
     }
@@ -71,4 +64,4 @@ returns-clause-joins c =
     joins_from
     (λ j l. visited_waits c.args.self.now.tiles.items c.args.k j c.visit-new.new.tile
     (omega (arith, c.requires.tile.inside, c.requires.sand.len)) c.visit-new.ensures.none_due)
-    (rw (← visited_each (goal.at.returns-clause-joins c).After-index-2) c.hand_over.ensures.joins)
+    (rw (← visited_each (goal.at.returns-clause-joins c).After-hand_over-arg-2-1) c.hand_over.ensures.joins)

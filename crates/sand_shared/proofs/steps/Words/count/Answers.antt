@@ -1,4 +1,4 @@
-use Rattle.std.proofs.Common.{[], ◌∷◌, ◌∙◌, arith}
+use Rattle.std.proofs.Common.{[], ◌∷◌, arith}
 use Rattle.sand_shared.specs.Events.{count}
 use Rattle.sand_shared.proofs.StepsAreEvents.{counts, happened_picked}
 use Rattle.sand_shared.proofs.StepsOnWords.{asks, stays_after}

@@ -1,4 +1,4 @@
-use Rattle.std.proofs.Common.{◌+◌, ◌%◌, ◌^◌, ◌∙◌, arith, length}
+use Rattle.std.proofs.Common.{◌+◌, ◌%◌, ◌^◌, arith, length}
 use Rattle.sand_shared.specs.Events.{all_draws}
 use Rattle.sand_shared.proofs.EventsInARow.{draws_row}
 use Rattle.sand_shared.proofs.StepsAreEvents.{happened_picked}

@@ -1,4 +1,4 @@
-use Rattle.std.proofs.Common.{◌+◌, ◌%◌, ◌^◌, ◌∙◌, arith}
+use Rattle.std.proofs.Common.{◌+◌, ◌%◌, ◌^◌, arith}
 use Rattle.sand_shared.specs.Events.{all_places}
 use Rattle.sand_shared.proofs.EventsInARow.{places_row}
 use Rattle.sand_shared.proofs.StepsAreEvents.{happened_picked}

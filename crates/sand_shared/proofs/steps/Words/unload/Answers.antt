@@ -1,4 +1,4 @@
-use Rattle.std.proofs.Common.{[], ◌∷◌, ◌+◌, ◌-◌, ◌*◌, ◌%◌, ◌^◌, ◌∙◌, arith}
+use Rattle.std.proofs.Common.{[], ◌∷◌, ◌+◌, ◌-◌, ◌*◌, ◌%◌, ◌^◌, arith}
 use Rattle.sand_shared.specs.Events.{unload}
 use Rattle.sand_shared.proofs.StepsAreEvents.{unloads, happened_picked}
 use Rattle.sand_shared.proofs.StepsOnWords.{asks, stays_after}
