@@ -74,15 +74,18 @@ dropped_its_stream s w t k d e is has = record {
   within = has.within;
 }
 
--- each count is at least a quarter of the height at its index
-quarters : (hs cs : List ℕ) → length hs ≤ length cs → ((j : ℕ) → j < length hs → get_or hs j 0 / 4 ≤ get_or cs j 0)
-    → sum_by (λ h. h / 4) hs ≤ sum cs
-quarters [] cs le each = omega arith
-quarters (h ∷ hs) [] le each = absurd (omega (arith, le))
-quarters (h ∷ hs) (c ∷ cs) le each =
-    let rest = quarters hs cs (omega (arith, le)) (λ j lt. each (suc j) (omega (arith, lt))) in
-    let first = each 0 (omega arith) in
-    omega (arith, rest, first, sum_by-cons (λ n. n / 4) h hs, sum_by-cons (λ n. n) c cs)
+-- if each number, through f, is at most the one at its index in another list, so is the sum
+pub sums_up : (f : ℕ → ℕ) (xs ys : List ℕ) → ((j : ℕ) → j < length xs → f (get_or xs j 0) ≤ get_or ys j 0)
+    → sum_by f xs ≤ sum ys
+sums_up f [] ys up = omega arith
+sums_up f (x ∷ xs) [] up =
+    let first = up 0 (omega arith) in
+    let rest = sums_up f xs [] (λ j lt. up (suc j) (omega (arith, lt))) in
+    omega (arith, first, rest, sum_by-cons f x xs)
+sums_up f (x ∷ xs) (y ∷ ys) up =
+    let first = up 0 (omega arith) in
+    let rest = sums_up f xs ys (λ j lt. up (suc j) (omega (arith, lt))) in
+    omega (arith, first, rest, sum_by-cons f x xs, sum_by-cons (λ n. n) y ys)
 
 -- if nothing had toppled, n is at least the height div 4
 few_left : (s : SharedView) (v : PassView) (i n : ℕ)
@@ -115,7 +118,6 @@ due_swept s rows turns w x is some has =
     let at_most : length hs ≤ many = omega (arith, length-take many (drop first s.terms.start.heights)) in
     let long : length w.pass.counts ≡ many = ap (λ (p : PassView). length p.counts) is ∙ length-replicate many 0 in
     let base : (at_rest w.pass).base ≡ first = ap (λ (p : PassView). p.rows.first * p.grid.width) is in
-    let short : length hs ≤ length x.pass.counts = omega (arith, at_most, has.same_rows, long) in
     let each : (j : ℕ) → j < length hs → get_or hs j 0 / 4 ≤ get_or x.pass.counts j 0 = λ j lt.
     let inside : j < many = omega (arith, lt, at_most) in
     let there : get_or hs j 0 ≡ height_of s.terms.start (first + j) =
@@ -127,8 +129,7 @@ due_swept s rows turns w x is some has =
     base (has.enough some j (omega (arith, inside, long))) in
     let enough = few_left s w.pass (first + j) (slice_index x.pass.counts j - slice_index w.pass.counts j) most none in
     omega (arith, enough, ap (λ (h : ℕ). h / 4) there) in
-    let all = quarters hs x.pass.counts short each in
-    omega (arith, all, has.can.swept)
+    omega (arith, sums_up (λ h. h / 4) hs x.pass.counts each, has.can.swept)
 
 pub swept_its_band : (s : SharedView) (w : Wish) (j : ℕ) (x y : Worker)
     → IsWorker s w.workers j x → TookSweepTurns s w.sweeps x y
@@ -139,14 +140,6 @@ swept_its_band s w j x y is has = record {
   enough = λ some. due_swept s (band (grid_of_terms s.terms).height w.workers j) w.sweeps x y is.pass some has;
 }
 
-sums_up : (xs ys : List ℕ) → length ys ≡ length xs → ((j : ℕ) → get_or xs j 0 ≤ get_or ys j 0) → sum xs ≤ sum ys
-sums_up [] ys long up = omega arith
-sums_up (x ∷ xs) [] long up = absurd (omega (arith, long))
-sums_up (x ∷ xs) (y ∷ ys) long up =
-    let first = up 0 in
-    let rest = sums_up xs ys (omega (arith, long)) (λ j. up (suc j)) in
-    omega (arith, first, rest, sum_by-cons (λ n. n) x xs, sum_by-cons (λ n. n) y ys)
-
 -- another round undoes nothing
 pub swept_more : (s : SharedView) (w : Wish) (j turns : ℕ) (x y : Worker)
     → HasSweptItsBand s w j x → TookSweepTurns s turns x y → HasSweptItsBand s w j y
@@ -154,7 +147,7 @@ swept_more s w j turns x y is has = record {
   pass = has.kept ∙ ap (λ (p : PassView). record p { counts = y.pass.counts }) is.pass;
   swept = has.can.swept;
   enough = λ some.
-      let more = sums_up x.pass.counts y.pass.counts has.same_rows has.never_fall in
+      let more = sums_up (λ n. n) x.pass.counts y.pass.counts (λ j lt. has.never_fall j) in
       omega (arith, is.enough some, is.swept, has.can.swept, more);
 }
 

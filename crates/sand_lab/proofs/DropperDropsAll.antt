@@ -25,7 +25,7 @@ begins s turns d can =
       who = refl;
       of_pile = can.of_pile;
       kept = refl;
-      left = (let long = ap (λ (xs : List ℕ). length xs) none in let all = can.left in omega (arith, long, all));
+      left = omega (arith, ap (λ (xs : List ℕ). length xs) none, can.left);
       may_read = omega arith;
       room = can.room;
       counts = can.counts;
@@ -58,9 +58,7 @@ reads_one s turns n d e f site h more who pass counts reading items room is insi
       kept = subst (λ (p : PassView). p ≡ record d.pass { left = p.left; seen = p.seen; receipts = p.receipts })
           (sym pass) h.kept;
       left = (let same = ap (λ (p : PassView). p.left) pass in
-          let long = ap (λ (xs : List ℕ). length xs) items ∙ length-append e.batch.items (site ∷ []) in
-          let was = h.left in
-          omega (arith, same, long, was));
+          omega (arith, same, ap (λ (xs : List ℕ). length xs) items ∙ length-append e.batch.items (site ∷ []), h.left));
       may_read = omega (arith, more);
       room = subst (λ (n : ℕ). div_ceil turns 16 ≤ n) (sym room) h.room;
       counts = counts ∙ h.counts;
@@ -80,9 +78,7 @@ reads_one s turns n d e f site h more who pass counts reading items room is insi
 pub took_drop_turns : (s : SharedView) (turns : ℕ) (d e : Dropper) → IsDropping s turns turns d e → e.batch.items ≡ []
     → TookDropTurns s turns d e
 took_drop_turns s turns d e h none =
-    let long = ap (λ (xs : List ℕ). length xs) none in
-    let was = h.left in
-    let left : e.pass.left ≡ 0 = omega (arith, long, was) in
+    let left : e.pass.left ≡ 0 = omega (arith, ap (λ (xs : List ℕ). length xs) none, h.left) in
     record {
       who = h.who;
       of_pile = h.of_pile;

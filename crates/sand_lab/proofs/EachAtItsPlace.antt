@@ -1,8 +1,8 @@
 -- What holds of each element of a list at its index, as the list grows.
-use Rattle.std.proofs.Common.{◌≡◌, ℕ, zero, suc, ◌+◌, List, [], ◌∷◌, ◌++◌, All, length, map, refl, subst, arith}
+use Rattle.std.proofs.Common.{◌≡◌, ℕ, zero, suc, ◌+◌, List, [], ◌∷◌, ◌++◌, All, length, get_or, map, refl, subst, arith}
 use Rattle.std.specs.List.{AllZip}
-use Rattle.std.proofs.lemmas.List.Elements.{All-nil, All-cons}
-use Rattle.std.proofs.lemmas.Option.{none-some, same_Some}
+use Rattle.std.proofs.lemmas.List.Elements.{All-map}
+use Rattle.std.proofs.lemmas.Option.{none-some, same_Some, slice_get-get_or}
 use Rattle.sand_lab.specs.Crews.{EachAt}
 
 module _ {A : Type 0} where
@@ -26,12 +26,9 @@ module _ {A : Type 0} where
   pub each_none : (P : ℕ → A → Type 0) → EachAt P []
   each_none P i x e = absurd (none-some x e)
 
-module _ {A : Type 0} where
   pub each_all : (P : ℕ → A → Type 0) (Q : A → Type 0) (xs : List A) → EachAt P xs → ((i : ℕ) (x : A) → P i x → Q x)
       → All Q xs
-  each_all P Q [] h f = All-nil Q
-  each_all P Q (x ∷ xs) h f = All-cons Q x xs (f 0 x (h 0 x refl))
-      (each_all (λ i. P (suc i)) Q xs (λ i y e. h (suc i) y e) (λ i y p. f (suc i) y p))
+  each_all P Q xs h f = λ k d lt. f k (get_or xs k d) (h k (get_or xs k d) (slice_get-get_or xs k d lt))
 
   pub each_zip : (P Q : ℕ → A → Type 0) (R : A → A → Type 0) (xs ys : List A)
       → EachAt P xs → AllZip R xs ys → ((i : ℕ) (x y : A) → P i x → R x y → Q i y)
@@ -47,9 +44,7 @@ module _ {A : Type 0} where
 module _ {A B : Type 0} where
   pub all_map : (P : ℕ → A → Type 0) (Q : B → Type 0) (v : A → B) (xs : List A)
       → EachAt P xs → ((i : ℕ) (x : A) → P i x → Q (v x)) → All Q (map v xs)
-  all_map P Q v [] h f = All-nil Q
-  all_map P Q v (x ∷ xs) h f = All-cons Q (v x) (map v xs) (f 0 x (h 0 x refl))
-      (all_map (λ i. P (suc i)) Q v xs (λ i y e. h (suc i) y e) (λ i y p. f (suc i) y p))
+  all_map P Q v xs h f = All-map Q v xs (each_all P (λ x. Q (v x)) xs h f)
 
   pub each_map : (P : ℕ → A → Type 0) (Q : ℕ → B → Type 0) (v : A → B) (xs : List A)
       → EachAt P xs → ((i : ℕ) (x : A) → P i x → Q i (v x)) → EachAt Q (map v xs)

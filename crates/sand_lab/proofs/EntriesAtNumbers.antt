@@ -69,7 +69,7 @@ module _ (drops : ℕ) (parts : List (List Receipt)) (rs : List Receipt) (are : 
   pub part_below : (k : ℕ) (part : List Receipt) (long : ℕ) → slice_get parts k ≡ Some part → AllBelow long rs
       → AllBelow long part
   part_below k part long at below i d inside =
-      let fits : i < drops = (let each = length-part drops parts rs are k part at in omega (arith, inside, each)) in
+      let fits : i < drops = omega (arith, inside, length-part drops parts rs are k part at) in
       subst (λ (r : Receipt). r.number < long) (same_receipt drops parts rs are k part at i d fits)
       (below (k * drops + i) d (place_inside drops parts rs are k part at i fits))
 
@@ -102,7 +102,5 @@ module _ (drops : ℕ) (parts : List (List Receipt)) (rs : List Receipt) (are : 
   all_noted js long noted = record {
     len = long;
     noted = λ j r there.
-        let inside = slice_get_within rs j r there in
-        let all = length-parts drops parts rs are in
-        noted j r (omega (arith, inside, all)) there;
+        noted j r (omega (arith, slice_get_within rs j r there, length-parts drops parts rs are)) there;
   }

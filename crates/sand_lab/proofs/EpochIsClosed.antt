@@ -28,6 +28,7 @@ use Rattle.sand_lab.specs.Journals.{Ascends, AreParts, HavePlaces, IsJournal, fl
 use Rattle.sand_plan.specs.Plans.{IsPlan, quota_of}
 use Rattle.sand_lab.specs.Epochs.{AreTallies, AreSwept, IsClosed}
 use Rattle.sand_lab.specs.Streams.{stream_of, stream_sites}
+use Rattle.sand_lab.proofs.CrewHasWorked.{sums_up}
 use Rattle.sand_lab.proofs.JournalSites.{journal_sites}
 use Rattle.sand_lab.proofs.JournalFollowsStreams.{follows_streams, length-parts}
 use Rattle.sand_lab.proofs.EachAtItsPlace.{all_map, each_map}
@@ -47,27 +48,14 @@ swept_counts (x ∷ xs) each =
     let one = each 0 0 x refl in
     let rest = swept_counts xs (λ i j y e. each i (suc j) y e) in
     let mine = sum_by-cons (λ n. n) x.swept (all_swept xs) in
-    let theirs = sum_by-append (λ n. n) x.pass.counts (all_counts xs) in
-    omega (arith, one, rest, mine, theirs)
-
-below_list : (cs os : List ℕ) → ((i : ℕ) → get_or cs i 0 ≤ get_or os i 0) → sum cs ≤ sum os
-below_list [] os below = omega arith
-below_list (c ∷ cs) [] below =
-    let first = below 0 in
-    let rest = below_list cs [] (λ i. below (suc i)) in
-    omega (arith, first, rest, sum_by-cons (λ n. n) c cs)
-below_list (c ∷ cs) (o ∷ os) below =
-    let first = below 0 in
-    let rest = below_list cs os (λ i. below (suc i)) in
-    omega (arith, first, rest, sum_by-cons (λ n. n) c cs, sum_by-cons (λ n. n) o os)
+    omega (arith, one, rest, mine, sum_by-append (λ n. n) x.pass.counts (all_counts xs))
 
 counts_few : (r : RecordView) (cs : List ℕ) → IsOneThreads r → ((i : ℕ) → slice_index cs i ≤ odometer_of r.settled i)
     → sum cs ≤ r.settled.topplings
 counts_few r cs one below =
     let all = sum_is_grains r.start.grid r.settled.odometer one.settled.odometer_each in
-    let topplings = one.settled.all_topplings in
-    let few = below_list cs r.settled.odometer below in
-    omega (arith, all, topplings, few)
+    let few = sums_up (λ n. n) cs r.settled.odometer (λ i lt. below i) in
+    omega (arith, all, one.settled.all_topplings, few)
 
 module _ (s : SharedView) (w : Wish) (t : ℕ) (c : Crew) (p : PassView)
     (quota : s.terms.quota ≡ quota_of w) (has : HasWorked s w t c) (gathered : HasGathered s c p) where
@@ -99,7 +87,7 @@ module _ (s : SharedView) (w : Wish) (t : ℕ) (c : Crew) (p : PassView)
 
   pub whole : IsWhole s.terms p
   whole = record {
-    quota = (let none = gathered.left in let all = all_dropped in omega (arith, none, all, quota));
+    quota = omega (arith, gathered.left, all_dropped, quota);
     rows = gathered.rows;
   }
 
@@ -122,9 +110,7 @@ module _ (s : SharedView) (w : Wish) (t : ℕ) (c : Crew) (p : PassView)
         len = all ∙ sym all_dropped ∙ ap (λ (rs : List Receipt). length rs) mine;
         once = subst EachOnce mine once;
         below = subst (λ (rs : List Receipt). AllBelow (length rs) rs) mine within;
-        few_droppers = (let few = plan.droppers in
-            let many = ap (λ (ps : List (List Receipt)). length ps) same ∙ many_parts in
-            omega (arith, few, many));
+        few_droppers = omega (arith, plan.droppers, ap (λ (ps : List (List Receipt)). length ps) same ∙ many_parts);
       }
 
   are_tallies : (tallies : List (List ℕ)) → tallies ≡ readings c.observers.items → AreTallies w tallies

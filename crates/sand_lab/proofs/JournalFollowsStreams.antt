@@ -77,8 +77,7 @@ module _ (drops : ℕ) (parts : List (List Receipt)) (rs : List Receipt) (are : 
     -- and the converse
     pub in_part : (i : ℕ) (r : Receipt) → i < drops → slice_get rs (k * drops + i) ≡ Some r → slice_get part i ≡ Some r
     in_part i r inside at_all =
-        let long = length-part in
-        slice_get-get_or part i r (omega (arith, inside, long))
+        slice_get-get_or part i r (omega (arith, inside, length-part))
         ∙ ap Some (sym (same_receipt i r inside) ∙ get_or_from_slice_get rs (k * drops + i) r r at_all)
 
     module _ (js : List Entry) (once : EachOnce rs)

@@ -49,18 +49,10 @@ total_more start rs p r q t b = record {
   pile = b.pile ∙ sym (last_push start rs r);
   odometer = λ i l.
       let inside : i < sites p.start.grid = subst (λ (x : PileView). i < sites x.grid) (sym t.from_start) l in
-      let both = b.odometer i inside in
-      let was = t.odometer i l in
       let push = sum_push (λ x. odometer_of x.settled i) rs r in
-      omega (arith, both, was, push);
-  topplings = (let push = sum_push (λ x. x.settled.topplings) rs r in
-      let both = b.topplings in
-      let was = t.topplings in
-      omega (arith, both, was, push));
-  lost = (let push = sum_push (λ x. x.settled.lost) rs r in
-      let both = b.lost in
-      let was = t.lost in
-      omega (arith, both, was, push));
+      omega (arith, b.odometer i inside, t.odometer i l, push);
+  topplings = omega (arith, b.topplings, t.topplings, sum_push (λ x. x.settled.topplings) rs r);
+  lost = omega (arith, b.lost, t.lost, sum_push (λ x. x.settled.lost) rs r);
 }
 
 pub report_first : (album : List ℕ) (w : Wish) (start : PileView) (r : RecordView) (s : SheetView)
@@ -115,9 +107,7 @@ all_dropped album w start t [] ss h = omega arith
 all_dropped album w start t (r ∷ rs) [] h = absurd h
 all_dropped album w start t (r ∷ rs) (s ∷ ss) h =
     let one = epoch_drops album w start t r s h.0 in
-    let rest = all_dropped album w r.settled.pile (t + 1) rs ss h.1 in
-    let both = length-append r.history (histories rs) in
-    omega (arith, one, rest, both)
+    omega (arith, one, all_dropped album w r.settled.pile (t + 1) rs ss h.1, length-append r.history (histories rs))
 
 -- the epochs so far made as many drops as their quotas
 pub dropped_so_far : (album : List ℕ) (w : Wish) (start : PileView) (n : ℕ) (p : ReportView)

@@ -4,6 +4,7 @@ use Rattle.std.specs.List.{AllZip}
 use Rattle.sand_shared.specs.declared.view.Receipt.{Receipt}
 use Rattle.std.specs.Prelude.{slice_index}
 use Rattle.sand_shared.specs.declared.view.Terms.{Terms}
+use Rattle.std.proofs.lemmas.List.{map_push}
 use Rattle.std.proofs.lemmas.List.Elements.{All-push, All-nil, All-cons, All-append}
 use Rattle.std.proofs.lemmas.List.Quantifiers.{all_pairs_push}
 use Rattle.sand_shared.specs.Events.{receipt, receipts_from}
@@ -60,8 +61,7 @@ climbs_push from mid [] n h le = (omega arith, omega arith)
 climbs_push from mid (x ∷ ns) n h le = (h.0, climbs_push x mid ns n h.1 le)
 
 pub sites_push : (rs : List Receipt) (r : Receipt) → receipt_sites (rs ++ r ∷ []) ≡ receipt_sites rs ++ r.site ∷ []
-sites_push [] r = refl
-sites_push (x ∷ rs) r = ap (λ ns. x.site ∷ ns) (sites_push rs r)
+sites_push rs r = map_push (λ (x : Receipt). x.site) rs r
 
 pub zip_append : {A B : Type 0} (R : A → B → Type 0) (xs ys : List A) (us vs : List B) → AllZip R xs us → AllZip R ys vs
     → AllZip R (xs ++ ys) (us ++ vs)
@@ -83,5 +83,4 @@ enough_after t p q counts topplings zero begun before swept j lt =
     (subst (λ (x : PassView). SweptRows t (at_rest x) counts topplings) (begun refl) swept).enough j lt
 enough_after t p q counts topplings (suc n) begun before swept j lt =
     let was = before (omega arith) j lt in
-    let up = swept.never_fall j in
-    omega (arith, was, up)
+    omega (arith, was, swept.never_fall j)

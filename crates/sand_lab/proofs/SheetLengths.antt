@@ -35,5 +35,4 @@ pub sheets : (album : List ℕ) (v w : Wish) → v ≡ w
 sheets album v w same start p made t l =
     let none : SheetView = record { journal = []; tallies = []; swept = []; place = 0; shown = None } in
     let report = subst (λ (u : Wish). IsReport album u start p) same made in
-    let all = report.all in
-    sheets_of album w none start 0 p.records p.sheets report.epochs t t (omega arith) (omega (arith, l, all))
+    sheets_of album w none start 0 p.records p.sheets report.epochs t t (omega arith) (omega (arith, l, report.all))

@@ -24,11 +24,8 @@ pub record Matches (k m : ℕ) (js : List Entry) (rs : List Receipt) : Type 0 wh
 below_later : (r : Receipt) (rs : List Receipt) → Ascends (r ∷ rs) → (i : ℕ) (q : Receipt) → slice_get rs i ≡ Some q
     → r.number < q.number
 below_later r rs up i q there =
-    let less = up 0 (suc i) q (omega arith) (let inside = slice_get_within rs i q there in omega arith) in
+    let less = up 0 (suc i) q (omega arith) (omega (arith, slice_get_within rs i q there)) in
     let same = ap (λ (x : Receipt). x.number) (get_or_from_slice_get rs i q q there) in omega arith
-
-ascends_later : (r : Receipt) (rs : List Receipt) → Ascends (r ∷ rs) → Ascends rs
-ascends_later r rs up = λ i j d before inside. up (suc i) (suc j) d (omega arith) (omega arith)
 
 -- if the first entry is the dropper's, it has the number of the first receipt
 first_number : (k m : ℕ) (e : Entry) (js : List Entry) (r : Receipt) (rs : List Receipt)
@@ -60,7 +57,7 @@ in_rest k m e js r later (suc n, number, there) = (n, omega arith, there)
 past_first : (k m : ℕ) (e : Entry) (js : List Entry) (r : Receipt) (rs : List Receipt)
     → Matches k m (e ∷ js) (r ∷ rs) → r.number ≡ m → Matches k (m + 1) js rs
 past_first k m e js r rs given first = record {
-  ascends = ascends_later r rs given.ascends;
+  ascends = λ i j d before inside. given.ascends (suc i) (suc j) d (omega arith) (omega arith);
   entries = λ i q there.
       let less = below_later r rs given.ascends i q there in
       in_rest k m e js q (omega arith) (given.entries (suc i) q there);
@@ -81,7 +78,7 @@ past_other k m e js rs given other = record {
   entries = λ i r there. let has = given.entries i r there in in_rest k m e js r (later r has) has;
   receipts = λ n x there is.
       let found = given.receipts (suc n) x there is in
-      (found.0, found.1, found.2, (let number = found.3 in omega arith));
+      (found.0, found.1, found.2, omega (arith, found.3));
 }
   where
     later : (r : Receipt) → HasEntry k m (e ∷ js) r → m < r.number

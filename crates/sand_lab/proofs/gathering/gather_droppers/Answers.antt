@@ -1,16 +1,11 @@
-use Rattle.std.proofs.Common.{rules, arith, ◌≡◌, suc, List, Vec, Global, [], ◌∷◌, ◌++◌, All, ap, ap₂, sym, subst, ◌∙◌, append_assoc, append-nil}
-use Rattle.std.proofs.lemmas.Grind.{flat_map-append}
-use Rattle.std.proofs.lemmas.List.{map-append}
+use Rattle.std.proofs.Common.{rules, arith, ◌≡◌, suc, List, Vec, Global, [], ◌∷◌, ◌++◌, All, ap, ap₂, sym, subst, ◌∙◌, append_assoc}
+use Rattle.std.proofs.lemmas.List.{flat_map_more, map-append}
 use Rattle.std.specs.Vec.Iter.{into_iter_items}
 use Rattle.sand_shared.specs.declared.view.Receipt.{Receipt}
 use Rattle.sand_shared.specs.Passes.{PassView}
 use Rattle.sand_lab.specs.declared.droppers.Dropper.{Dropper}
 use Rattle.sand_lab.specs.Gathering.{all_receipts, HoldsReceipts}
 use Rattle.sand_lab.proofs.gathering.gather_droppers.Goals as goal
-
-more : (ds : List Dropper) (d : Dropper) → all_receipts (ds ++ d ∷ []) ≡ all_receipts ds ++ d.pass.receipts
-more ds d = flat_map-append (λ (x : Dropper). x.pass.receipts) ds (d ∷ [])
-    ∙ ap (λ rs. all_receipts ds ++ rs) (append-nil d.pass.receipts)
 
 pub loop-dropper-preserved : goal.loop-dropper-preserved
 loop-dropper-preserved c =
@@ -23,7 +18,7 @@ loop-dropper-preserved c =
     let seen = c.take_in_receipts.new.first.seen in
     let receipts : c.loop-dropper.first.receipts ++ d.pass.receipts ≡ before ++ all_receipts (ds ++ d ∷ []) =
     ap (λ (p : PassView). p.receipts ++ d.pass.receipts) i.first
-    ∙ append_assoc before (all_receipts ds) d.pass.receipts ∙ ap (λ rs. before ++ rs) (sym (more ds d)) in
+    ∙ flat_map_more (λ (x : Dropper). x.pass.receipts) before ds d in
     let rest = subst (All (λ (x : Dropper). HoldsReceipts c.args.pile.now x.pass)) steps i.rest in
     record {
       of_pile = search rules;

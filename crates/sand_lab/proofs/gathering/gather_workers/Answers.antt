@@ -1,7 +1,6 @@
 use Rattle.std.proofs.Common.{rules, arith, ◌≡◌, ℕ, ◌+◌, ◌*◌, ◌/◌, List, [], ◌∷◌, ◌++◌, length, Some, refl, ap, ap₂, sym, subst, ◌∙◌, append_assoc, append-nil, length-append}
 use Rattle.std.specs.Prelude.{slice_get}
-use Rattle.std.proofs.lemmas.Grind.{flat_map-append}
-use Rattle.std.proofs.lemmas.List.{map-append}
+use Rattle.std.proofs.lemmas.List.{flat_map_more, map-append, nil_from_length}
 use Rattle.std.proofs.Math.Nat.{mul-div_cancel_left}
 use Rattle.std.specs.Vec.Iter.{into_iter_items}
 use Rattle.sand_shared.specs.OpenPile.{grid_of_terms}
@@ -12,14 +11,6 @@ use Rattle.sand_lab.proofs.RowsInBands.{top}
 use Rattle.sand_lab.proofs.BandsJoinToAll.{band_joined, band_touches, next_at, share_grows}
 use Rattle.sand_lab.proofs.gathering.gather_workers.Goals.{In-Some}
 use Rattle.sand_lab.proofs.gathering.gather_workers.Goals as goal
-
-nothing_left : {A : Type 0} (xs : List A) → length xs ≡ 0 → xs ≡ []
-nothing_left [] e = refl
-nothing_left (x ∷ xs) e = absurd (omega (arith, e))
-
-more : (xs : List Worker) (x : Worker) → all_counts (xs ++ x ∷ []) ≡ all_counts xs ++ x.pass.counts
-more xs x = flat_map-append (λ (w : Worker). w.pass.counts) xs (x ∷ [])
-    ∙ ap (λ cs. all_counts xs ++ cs) (append-nil x.pass.counts)
 
 in_order : (c : In-Some)
     → c.loop-worker.yielded ++ c.in-Some.worker ∷ into_iter_items c.next.new.self ≡ c.args.workers.items
@@ -67,7 +58,8 @@ loop-worker-preserved c =
     ∙ band_joined s c.loop-worker.first x.pass begin end (share_grows j height n) rows (holds at) in
     let long : j + 1 ≡ length (xs ++ x ∷ []) = sym (length-append xs (x ∷ [])) in
     let counts : c.loop-worker.first.counts ++ x.pass.counts ≡ all_counts (xs ++ x ∷ []) =
-    ap (λ (p : PassView). p.counts ++ x.pass.counts) i.first ∙ sym (more xs x) in
+    ap (λ (p : PassView). p.counts ++ x.pass.counts) i.first
+    ∙ flat_map_more (λ (w : Worker). w.pass.counts) [] xs x in
     let seen : (together c.loop-worker.first x.pass).seen ≡ c.take_in.new.first.seen =
     sym (ap (λ (p : PassView). p.seen) joined) in
     let all = c.args.first.now in
@@ -80,7 +72,7 @@ loop-worker-preserved c =
           record all { seen = c.take_in.new.first.seen; rows = top (m * height / n); counts = cs })
           long counts;
       items = append_assoc xs (x ∷ []) left ∙ in_order at;
-      len = (let was = i.len in let gone = c.in-Some.ensures.steps.1 in let short = ap length steps in omega arith);
+      len = omega (arith, i.len, c.in-Some.ensures.steps.1, ap length steps);
       room = search rules;
       swept = rw (c.push_reserved.ensures.items, i.swept) (sym (map-append (λ (w : Worker). w.swept) xs (x ∷ [])));
     }
@@ -93,7 +85,7 @@ returns-clause-first c =
     let height = (grid_of_terms s.terms).height in
     let n = length c.args.workers.items in
     let none : into_iter_items c.loop-worker.worker-iterator ≡ [] =
-    nothing_left (into_iter_items c.loop-worker.worker-iterator) (i.len ∙ c.in-None.ensures.steps.0) in
+    nil_from_length (into_iter_items c.loop-worker.worker-iterator) (i.len ∙ c.in-None.ensures.steps.0) in
     let all : xs ≡ c.args.workers.items = sym (append-nil xs) ∙ rw none at i.items in
     let whole : length xs * height / n ≡ height =
     ap (λ (ws : List Worker). length ws * height / n) all ∙ mul-div_cancel_left height c.requires.some in

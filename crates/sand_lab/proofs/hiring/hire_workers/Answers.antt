@@ -73,6 +73,5 @@ loop-done-preserved c =
 
 pub returns-clause-workers : goal.returns-clause-workers
 returns-clause-workers c i x at =
-    let all = c.loop-done-test.false in
-    let place : c.args.workers - c.loop-done.done + i ≡ i = omega (arith, all) in
+    let place : c.args.workers - c.loop-done.done + i ≡ i = omega (arith, c.loop-done-test.false) in
     subst (λ (n : ℕ). IsWorker c.args.pile.now c.args.workers n x) place (c.loop-done.invariant.hired i x at)

@@ -47,12 +47,13 @@ returns c =
     let parts = lists c.args.parts.now in
     let all = flattened parts in
     let js = c.loop-dropper.journal.items in
-    let long : length js ≡ length all =
-    (let kept = c.loop-dropper.invariant.len in let one_each = c.requires.len in omega (arith, kept, one_each)) in
-    let end : c.loop-dropper.dropper ≡ length parts = (let last = c.loop-dropper-test.false in
-    let fits = c.loop-dropper.auto.dropper-end in
-    let same = length-map c.args.parts.now (λ part. part.items) in
-    omega (arith, last, fits, same)) in
+    let long : length js ≡ length all = omega (arith, c.loop-dropper.invariant.len, c.requires.len) in
+    let end : c.loop-dropper.dropper ≡ length parts = omega (
+      arith,
+      c.loop-dropper-test.false,
+      c.loop-dropper.auto.dropper-end,
+      length-map c.args.parts.now (λ part. part.items),
+    ) in
     record {
       journal = all_noted drops parts all c.requires.are_parts js long
           (subst (λ k. NotedBelow drops (k * drops) all js) end c.loop-dropper.invariant.noted);

@@ -13,8 +13,7 @@ copy_to_grow-requires g c =
     let grains = ap (λ (x : PileView). sum x.heights) epoch.from_start in
     let later = ap₂ (λ (m n : ℕ). m * n) c.quota_of.ensures c.from.ensures in
     let all = first_and_later c.args.wish.epochs (quota_of c.args.wish) c.requires.plan.some_epochs in
-    let limit = c.requires.limit in
-    omega (arith, drops, grains, later, all, limit)
+    omega (arith, drops, grains, later, all, c.requires.limit)
 
 pub returns-clause-report : goal.returns-clause-report
 returns-clause-report g c =

@@ -44,8 +44,7 @@ pub returns : goal.returns
 returns g c =
     let some = c.requires.plan.some_epochs in
     let past = c.loop-epoch-test.false in
-    let most = c.loop-epoch.auto.epoch-end in
-    let all : c.loop-epoch.epoch ≡ c.args.wish.epochs = omega (arith, some, past, most) in
+    let all : c.loop-epoch.epoch ≡ c.args.wish.epochs = omega (arith, some, past, c.loop-epoch.auto.epoch-end) in
     record {
       report = subst (λ n. IsReportOf c.args.album.now c.args.wish c.args.start.now n c.loop-epoch.report)
           all c.loop-epoch.invariant;

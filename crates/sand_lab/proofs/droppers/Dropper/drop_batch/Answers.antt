@@ -26,8 +26,6 @@ returns-clause-dropped c turns read first h =
     let left : q.left ≡ p.left - length is = ap (λ (x : PassView). x.left) after in
     let seen : q.seen ≡ n + length is = ap (λ (x : PassView). x.seen) after in
     let receipts : q.receipts ≡ p.receipts ++ receipts_from n is = ap (λ (x : PassView). x.receipts) after in
-    let was = h.left in
-    let may = h.may_read in
     let fresh = c.in-Ok.ensures.after_all_seen in
     record {
       who = h.who;
@@ -39,7 +37,7 @@ returns-clause-dropped c turns read first h =
             receipts = p.receipts ++ receipts_from n is;
           }) h.kept
           ∙ (λ i. record first.pass { left = sym left i; seen = sym seen i; receipts = sym receipts i });
-      left = (let long = ap (λ (xs : List ℕ). length xs) none in omega (arith, was, may, left, long));
+      left = omega (arith, h.left, h.may_read, left, ap (λ (xs : List ℕ). length xs) none);
       may_read = h.may_read;
       room = subst (λ (n : ℕ). div_ceil turns 16 ≤ n) (sym c.clear.ensures.capacity) h.room;
       counts = c.drop_all.ensures.counts ∙ h.counts;

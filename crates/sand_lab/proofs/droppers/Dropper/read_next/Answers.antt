@@ -23,8 +23,7 @@ returns-then-len-most-clause-read c read first more h =
 pub returns-then-len-most-clause-bound : goal.returns-then-len-most-clause-bound
 returns-then-len-most-clause-bound c =
     let was = c.requires.bound in
-    let none = ap (λ (xs : List ℕ). length xs) c.drop_batch.ensures.all in
-    omega (arith, was, none)
+    omega (arith, was, ap (λ (xs : List ℕ). length xs) c.drop_batch.ensures.all)
 
 pub returns-else-len-most-clause-read : goal.returns-else-len-most-clause-read
 returns-else-len-most-clause-read c read first more h =

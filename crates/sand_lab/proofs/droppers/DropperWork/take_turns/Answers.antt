@@ -12,8 +12,7 @@ loop-turn-init g c = record {
   dropping = begins c.args.pile.now c.args.turns c.args.self.now c.requires;
   bound = λ some.
       let one = some_in_a_batch c.args.turns some in
-      let none = ap (λ (xs : List ℕ). length xs) c.requires.none_read in
-      omega (arith, one, none);
+      omega (arith, one, ap (λ (xs : List ℕ). length xs) c.requires.none_read);
   one_by_one = λ holds. c.requires.none_read;
 }
 
@@ -26,7 +25,7 @@ read_next-requires-clause-dropping g c =
     (c.loop-turn.turn, c.args.self.now, c.loop-turn-test.true, c.loop-turn.invariant.dropping)
 
 pub read_next-requires-clause-bound : goal.read_next-requires-clause-bound
-read_next-requires-clause-bound g c = c.loop-turn.invariant.bound (let more = c.loop-turn-test.true in omega (arith, more))
+read_next-requires-clause-bound g c = c.loop-turn.invariant.bound (omega (arith, c.loop-turn-test.true))
 
 pub loop-turn-preserved : goal.loop-turn-preserved
 loop-turn-preserved g c =
@@ -59,9 +58,8 @@ drop_batch-requires g c = (c.args.turns, c.loop-turn.turn, c.args.self.now, c.lo
 
 pub returns : goal.returns
 returns g c =
-    let all : c.loop-turn.turn ≡ c.args.turns = (let done = c.loop-turn-test.false in
-    let may = c.loop-turn.invariant.dropping.may_read in
-    omega (arith, done, may)) in
+    let all : c.loop-turn.turn ≡ c.args.turns =
+    omega (arith, c.loop-turn-test.false, c.loop-turn.invariant.dropping.may_read) in
     took_drop_turns c.args.pile.now c.args.turns c.args.self.now c.drop_batch.new.self
     (subst (λ (n : ℕ). IsDropping c.args.pile.now c.args.turns n c.args.self.now c.drop_batch.new.self) all
     (c.drop_batch.ensures.dropped c.args.turns c.loop-turn.turn c.args.self.now c.loop-turn.invariant.dropping))
