@@ -73,7 +73,11 @@ fn settle<R: Threads + Sync>(
     ensures memory { IfErr result IsMemory }
 {
     let rest = settle_and_write_journal(rt, alloc, &pile, &mut all, &mut blank, parts.as_slice())?;
-    let Blank { journal, history, .. } = blank;
+    let Blank {
+        journal,
+        history,
+        ..
+    } = blank;
     let history = write_history_and_free(rt, history, journal.as_slice(), parts);
     Ok((journal, pile.complete(all, rest, history)))
 }
