@@ -8,6 +8,7 @@ use Rattle.sand_model.specs.declared.shape.Edge.{Edge}
 use Rattle.sand_model.specs.declared.faults.ShapeFault.TheVariants.{Side, Narrow}
 use Rattle.sand_model.specs.Grid.{Grid, sites}
 use Rattle.sand_model.specs.Piles.{most_grains}
+use Rattle.sand_c.specs.declared.arguments.Sides.{Sides}
 use Rattle.sand_c.specs.declared.settling_all.SettledPiles.{SettledPiles}
 use Rattle.sand_c.specs.Arguments.{edge_of, grid_of, shaped}
 use Rattle.sand_c.specs.Settling.{settling_of}
@@ -15,39 +16,39 @@ use Rattle.sand_c.specs.SettlingAll.{are_within, IsSettlingAt, AreRecords}
 use Rattle.sand_c.proofs.Chunks.{has_n, each_within}
 
 -- a grid has the sides that it was made of
-sides_of : (some narrow : Bool) (w h : ℕ) (e : Edge) (g : Grid)
+sides_kept : (some narrow : Bool) (w h : ℕ) (e : Edge) (g : Grid)
     → shaped (if some then (if narrow then Err Narrow else Ok (record { width = w; height = h; edge = e })) else Err Side)
     ≡ Ok g → w * h ≡ sites g
-sides_of true true w h e g is = absurd (cc)
-sides_of true false w h e g is =
+sides_kept true true w h e g is = absurd (cc)
+sides_kept true false w h e g is =
     let same : record { width = w; height = h; edge = e } ≡ g = cc in
     ap sites same
-sides_of false narrow w h e g is = absurd (cc)
+sides_kept false narrow w h e g is = absurd (cc)
 
-sites_are : (w h : ℕ) (c : Bool) (g : Grid) → grid_of w h c ≡ Ok g → w * h ≡ sites g
-sites_are w h c g is = sides_of _ _ w h (edge_of c) g is
+sites_are : (s : Sides) (g : Grid) → grid_of s ≡ Ok g → s.width * s.height ≡ sites g
+sites_are s g is = sides_kept _ _ s.width s.height (edge_of s.cylinder) g is
 
 -- heights and places that suit a grid are a pile on it
-is_meant : (w h : ℕ) (c : Bool) (g : Grid) (heights places : List ℕ) → grid_of w h c ≡ Ok g
+is_meant : (s : Sides) (g : Grid) (heights places : List ℕ) → grid_of s ≡ Ok g
     → length heights ≡ sites g → length places ≡ sites g → sum heights ≤ most_grains
-    → settling_of w h c heights places ≡ Ok (record { grid = g; heights = heights })
-is_meant w h c g heights places grid each place few =
+    → settling_of s heights places ≡ Ok (record { grid = g; heights = heights })
+is_meant s g heights places grid each place few =
     rw (
       grid,
-      eq-eqb (length places) (sites g) place,
       eq-eqb (length heights) (sites g) each,
+      eq-eqb (length places) (sites g) place,
       le-ltb most_grains (sum heights) few,
     ) refl
 
-pub settled_at : (w h : ℕ) (c : Bool) (g : Grid) (heights places : List ℕ) (k : ℕ) (all : SettledPiles)
-    → grid_of w h c ≡ Ok g → length heights ≡ k * sites g → length places ≡ k * sites g
+pub settled_at : (s : Sides) (g : Grid) (heights places : List ℕ) (k : ℕ) (all : SettledPiles)
+    → grid_of s ≡ Ok g → length heights ≡ k * sites g → length places ≡ k * sites g
     → are_within (sites g) heights k ≡ true → AreRecords g heights k all → (j : ℕ) → j < k
-    → IsSettlingAt j w h c heights places all.heights.items all.odometer.items all.lost.items all.topplings.items
-settled_at w h c g heights places k all grid each place within are j lt =
+    → IsSettlingAt j s heights places all.heights.items all.odometer.items all.lost.items all.topplings.items
+settled_at s g heights places k all grid each place within are j lt =
     let n = sites g in
-    rw (sites_are w h c g grid) (record {
+    rw (sites_are s g grid) (record {
       start = record { grid = g; heights = slice_chunk heights n j };
-      meant = is_meant w h c g (slice_chunk heights n j) (slice_chunk places n j) grid
+      meant = is_meant s g (slice_chunk heights n j) (slice_chunk places n j) grid
           (has_n n j k heights each lt) (has_n n j k places place lt) (each_within n heights k within j lt);
       settled = are.records j lt;
     })

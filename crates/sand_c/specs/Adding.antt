@@ -1,18 +1,19 @@
 -- What `sandpile_add` does.
-use Rattle.std.specs.Prelude.{ℕ, ◌≡◌, ◌⊎◌, Bool, List, length, Result, Ok, Err}
+use Rattle.std.specs.Prelude.{ℕ, ◌≡◌, ◌⊎◌, List, length, Result, Ok, Err}
 use Rattle.sand_model.specs.Grid.{sites}
 use Rattle.sand_model.specs.Piles.{PileView, height_of}
 use Rattle.sand_group.specs.Group.{IsSum}
 use Rattle.sand_group.specs.Recurrence.{IsRecurrent}
+use Rattle.sand_c.specs.declared.arguments.Sides.{Sides}
 use Rattle.sand_c.specs.declared.faults.Fault.{Fault}
 use Rattle.sand_c.specs.declared.faults.Fault.TheVariants.{Memory}
 use Rattle.sand_c.specs.Arguments.{pile_on, pile_with, ◌>>=◌}
 use Rattle.sand_c.specs.Unfit.{IsUnfit}
 
 -- the piles in the arguments, both on one grid
-abbrev pub adding_of : ℕ → ℕ → Bool → List ℕ → List ℕ → Result (PileView × PileView) Fault
-adding_of width height cylinder heights others =
-    pile_with width height cylinder heights (length others) >>= λ p. pile_on p.grid others >>= λ q. Ok (p, q)
+abbrev pub adding_of : Sides → List ℕ → List ℕ → Result (PileView × PileView) Fault
+adding_of s heights others =
+    pile_with s heights (length others) >>= λ p. pile_on p.grid others >>= λ q. Ok (p, q)
 
 -- a sum fails: its arguments have a fault, or memory runs out, or the first pile is not recurrent, or the second is not
 abbrev pub AddFails : Fault → Result (PileView × PileView) Fault → Type 0

@@ -5,6 +5,7 @@ use Rattle.sand_model.specs.declared.shape.Edge.TheVariants.{Open, Cylinder}
 use Rattle.sand_model.specs.declared.faults.ShapeFault.{ShapeFault}
 use Rattle.sand_model.specs.Grid.{Grid, grid_with_edge, sites}
 use Rattle.sand_model.specs.Piles.{PileView, most_grains}
+use Rattle.sand_c.specs.declared.arguments.Sides.{Sides}
 use Rattle.sand_c.specs.declared.faults.Fault.{Fault}
 use Rattle.sand_c.specs.declared.faults.Fault.TheVariants.{Length, TooManyGrains, Memory}
 use Rattle.sand_c.specs.Faults.{number_of, of_shape}
@@ -22,9 +23,12 @@ abbrev pub shaped : Result Grid ShapeFault → Result Grid Fault
 shaped (Ok g) = Ok g
 shaped (Err fault) = Err (of_shape fault)
 
--- the grid with these sides and this edge
-abbrev pub grid_of : ℕ → ℕ → Bool → Result Grid Fault
-grid_of width height cylinder = shaped (grid_with_edge width height (edge_of cylinder))
+abbrev pub sides_of : ℕ → ℕ → Bool → Sides
+sides_of width height cylinder = record { width = width; height = height; cylinder = cylinder }
+
+-- the grid with these sides
+abbrev pub grid_of : Sides → Result Grid Fault
+grid_of s = shaped (grid_with_edge s.width s.height (edge_of s.cylinder))
 
 -- the length of a slice, if it is the expected one
 abbrev pub has_length : ℕ → ℕ → Result ℕ Fault
@@ -36,15 +40,14 @@ pile_on g heights = if length heights == sites g
     then (if nat_lt most_grains (sum heights) then Err TooManyGrains else Ok (record { grid = g; heights = heights }))
     else Err Length
 
--- the pile with these heights on the grid with these sides and this edge
-abbrev pub pile_of : ℕ → ℕ → Bool → List ℕ → Result PileView Fault
-pile_of width height cylinder heights = grid_of width height cylinder >>= λ g. pile_on g heights
+-- the pile with these heights on the grid with these sides
+abbrev pub pile_of : Sides → List ℕ → Result PileView Fault
+pile_of s heights = grid_of s >>= λ g. pile_on g heights
 
 -- the same, if it has `places` sites
-abbrev pub pile_with : ℕ → ℕ → Bool → List ℕ → ℕ → Result PileView Fault
-pile_with width height cylinder heights places =
-    grid_of width height cylinder >>= λ g.
-    has_length (sites g) (length heights) >>= λ _. has_length (sites g) places >>= λ _. pile_on g heights
+abbrev pub pile_with : Sides → List ℕ → ℕ → Result PileView Fault
+pile_with s heights places =
+    grid_of s >>= λ g. has_length (sites g) (length heights) >>= λ _. has_length (sites g) places >>= λ _. pile_on g heights
 
 -- a call fails with the fault of its arguments; memory runs out only if they have none
 abbrev pub Fails : {A : Type 0} → Fault → Result A Fault → Type 0

@@ -6,12 +6,13 @@ use Rattle.sand_model.specs.Sand.{IsStable}
 use Rattle.sand_group.specs.declared.burning.Burned.{Burned}
 use Rattle.sand_group.specs.declared.burning.Burned.TheVariants.{Recurrent, Forbidden}
 use Rattle.sand_group.specs.Recurrence.{IsRecurrent, IsBurningOrder, IsGreatestForbidden}
+use Rattle.sand_c.specs.declared.arguments.Sides.{Sides}
 use Rattle.sand_c.specs.declared.faults.Fault.{Fault}
 use Rattle.sand_c.specs.declared.faults.Fault.TheVariants.{Memory, Unstable}
 use Rattle.sand_c.specs.Arguments.{pile_with}
 
-abbrev pub burning_of : ℕ → ℕ → Bool → List ℕ → List ℕ → Result PileView Fault
-burning_of width height cylinder heights found = pile_with width height cylinder heights (length found)
+abbrev pub burning_of : Sides → List ℕ → List ℕ → Result PileView Fault
+burning_of s heights found = pile_with s heights (length found)
 
 -- these sites are a burning order of a recurrent pile, or the greatest forbidden set of any other
 abbrev pub IsFound : Grid → (ℕ → ℕ) → Bool → List ℕ → Type 0

@@ -5,6 +5,7 @@ use Rattle.sand_model.specs.Grid.{Grid, sites}
 use Rattle.sand_model.specs.Piles.{PileView, most_grains}
 use Rattle.sand_settle.specs.Avalanches.{Avalanche, IsAvalanche}
 use Rattle.sand_settle.specs.Drops.{OneView, grid_of_one_pile, topplings_between, IsAfter, Drops}
+use Rattle.sand_c.specs.declared.arguments.Sides.{Sides}
 use Rattle.sand_c.specs.declared.faults.Fault.{Fault}
 use Rattle.sand_c.specs.declared.faults.Fault.TheVariants.{Full, NoSite}
 use Rattle.sand_c.specs.Arguments.{grid_of, has_length, pile_on, ◌>>=◌}
@@ -29,9 +30,9 @@ with_drops drops p = with_sites drops p >>= with_room (length drops)
 abbrev pub drops_on : Grid → List ℕ → List ℕ → Result PileView Fault
 drops_on g heights drops = pile_on g heights >>= with_drops drops
 
-abbrev pub dropping_of : ℕ → ℕ → Bool → List ℕ → List ℕ → List ℕ → List Avalanche → Result PileView Fault
-dropping_of width height cylinder heights odometer drops avalanches =
-    grid_of width height cylinder >>= λ g. has_length (sites g) (length heights)
+abbrev pub dropping_of : Sides → List ℕ → List ℕ → List ℕ → List Avalanche → Result PileView Fault
+dropping_of s heights odometer drops avalanches =
+    grid_of s >>= λ g. has_length (sites g) (length heights)
     >>= λ _. has_length (sites g) (length odometer) >>= λ _. has_length (length drops) (length avalanches)
     >>= λ _. drops_on g heights drops
 

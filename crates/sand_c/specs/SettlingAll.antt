@@ -4,6 +4,7 @@ use Rattle.std.specs.Fork.{slice_chunk}
 use Rattle.sand_model.specs.Grid.{Grid, sites}
 use Rattle.sand_model.specs.Piles.{most_grains}
 use Rattle.sand_settle.specs.Settling.{IsSettledRecord}
+use Rattle.sand_c.specs.declared.arguments.Sides.{Sides}
 use Rattle.sand_c.specs.declared.faults.Fault.{Fault}
 use Rattle.sand_c.specs.declared.faults.Fault.TheVariants.{TooManyGrains}
 use Rattle.sand_c.specs.declared.settling_all.SettledPiles.{SettledPiles}
@@ -21,17 +22,17 @@ within_on g heights k = if are_within (sites g) heights k then Ok g else Err Too
 
 -- the grid, if there is a pile on it for each place of `lost`, with places for its odometer and its topplings, and each pile
 -- is within the limit
-abbrev pub settling_all_of : ℕ → ℕ → Bool → List ℕ → List ℕ → List ℕ → List ℕ → Result Grid Fault
-settling_all_of width height cylinder heights odometer lost topplings =
-    grid_of width height cylinder >>= λ g. has_length (length lost) (length topplings)
+abbrev pub settling_all_of : Sides → List ℕ → List ℕ → List ℕ → List ℕ → Result Grid Fault
+settling_all_of s heights odometer lost topplings =
+    grid_of s >>= λ g. has_length (length lost) (length topplings)
     >>= λ _. has_length (length lost * sites g) (length heights)
     >>= λ _. has_length (length lost * sites g) (length odometer) >>= λ _. within_on g heights (length lost)
 
 -- what is written for the j-th pile is what `sandpile_settle` writes for it
-abbrev pub IsSettlingAt : ℕ → ℕ → ℕ → Bool → List ℕ → List ℕ → List ℕ → List ℕ → List ℕ → List ℕ → Type 0
-IsSettlingAt j width height cylinder heights places after odometer lost topplings =
-    let n = width * height in
-    IsSettling (settling_of width height cylinder (slice_chunk heights n j) (slice_chunk places n j))
+abbrev pub IsSettlingAt : ℕ → Sides → List ℕ → List ℕ → List ℕ → List ℕ → List ℕ → List ℕ → Type 0
+IsSettlingAt j s heights places after odometer lost topplings =
+    let n = s.width * s.height in
+    IsSettling (settling_of s (slice_chunk heights n j) (slice_chunk places n j))
     (slice_chunk after n j) (slice_chunk odometer n j) (slice_index lost j) (slice_index topplings j)
 
 -- these are the settled records of the first k piles on a grid

@@ -1,16 +1,16 @@
 -- The piles that are elements of the group, and why a pile is not one.
-use Rattle.std.specs.Prelude.{ℕ, ◌≡◌, ◌⊎◌, Bool, List, length, Result, Ok, Err}
+use Rattle.std.specs.Prelude.{ℕ, ◌≡◌, ◌⊎◌, List, length, Result, Ok, Err}
 use Rattle.sand_model.specs.Grid.{sites}
 use Rattle.sand_model.specs.Piles.{PileView, height_of}
 use Rattle.sand_model.specs.Sand.{IsStable}
 use Rattle.sand_group.specs.Recurrence.{IsRecurrent}
+use Rattle.sand_c.specs.declared.arguments.Sides.{Sides}
 use Rattle.sand_c.specs.declared.faults.Fault.{Fault}
 use Rattle.sand_c.specs.declared.faults.Fault.TheVariants.{Memory, Unstable, NotRecurrent}
 use Rattle.sand_c.specs.Arguments.{grid_of, has_length, pile_on, ◌>>=◌}
 
-abbrev pub element_of : ℕ → ℕ → Bool → List ℕ → Result PileView Fault
-element_of width height cylinder heights =
-    grid_of width height cylinder >>= λ g. has_length (sites g) (length heights) >>= λ _. pile_on g heights
+abbrev pub element_of : Sides → List ℕ → Result PileView Fault
+element_of s heights = grid_of s >>= λ g. has_length (sites g) (length heights) >>= λ _. pile_on g heights
 
 -- why a pile is not recurrent: a height is over 3; or none is, and a set is forbidden
 abbrev pub IsUnfit : PileView → Fault → Type 0

@@ -4,9 +4,9 @@ ghost use Rattle.std.specs.Prelude.{◌≡◌, ◌≢◌, ◌≤◌, length, sum
 ghost use Rattle.sand_model.specs.Grid.{sites};
 ghost use Rattle.sand_model.specs.Piles.{most_grains};
 ghost use Rattle.sand_c.specs.Adding.{adding_of, IsAdding, AddFails};
-ghost use Rattle.sand_c.specs.Arguments.{IsAnswer};
+ghost use Rattle.sand_c.specs.Arguments.{sides_of, IsAnswer};
 
-use crate::arguments::{grains_of, grid_for};
+use crate::arguments::{Sides, grains_of, grid_for, sides_of};
 use crate::faults::Fault;
 use crate::recurrent::{answer_in, recurrent_on};
 use sand_group::{Recurrent, add};
@@ -31,27 +31,17 @@ fn sum_on(alloc: Global, shape: Shape, heights: &[u64], others: &[u64]) -> Resul
 {
     let first = recurrent_on(alloc, shape, heights)?;
     let second = recurrent_on(alloc, shape, others)?;
-    let sum = add(alloc, &first, &second);
-    // Freed here, so that no way out below has to.
-    drop(second);
-    drop(first);
-    Ok(sum?)
+    let sum = add(alloc, &first, &second)?;
+    Ok(sum)
 }
 
 // The sum of the two piles in the arguments.
-fn sum_of(
-    alloc: Global,
-    width: usize,
-    height: usize,
-    cylinder: bool,
-    heights: &[u64],
-    others: &[u64],
-) -> Result<Recurrent, Fault>
-    ensures added { IfOk result (λ c. IsAdding (adding_of width height cylinder heights.now others.now) c.heights) }
+fn sum_of(alloc: Global, sides: Sides, heights: &[u64], others: &[u64]) -> Result<Recurrent, Fault>
+    ensures added { IfOk result (λ c. IsAdding (adding_of sides heights.now others.now) c.heights) }
     ensures len { IfOk result (λ c. length c.heights ≡ length heights.now) }
-    ensures fault { IfErr result (λ e. AddFails e (adding_of width height cylinder heights.now others.now)) }
+    ensures fault { IfErr result (λ e. AddFails e (adding_of sides heights.now others.now)) }
 {
-    let shape = grid_for(width, height, cylinder, heights, others.len())?;
+    let shape = grid_for(sides, heights, others.len())?;
     if grains_of(others).is_none() {
         return Err(Fault::TooManyGrains);
     }
@@ -70,10 +60,10 @@ pub extern "C" fn sandpile_add(
     heights: &mut [u64],
     others: &[u64],
 ) -> u32
-    ensures added { result ≡ 0 → IsAdding (adding_of width height cylinder heights.old others.now) heights.new }
-    ensures answer { IsAnswer result (λ e. AddFails e (adding_of width height cylinder heights.old others.now)) }
+    ensures added { result ≡ 0 → IsAdding (adding_of (sides_of width height cylinder) heights.old others.now) heights.new }
+    ensures answer { IsAnswer result (λ e. AddFails e (adding_of (sides_of width height cylinder) heights.old others.now)) }
     ensures heights { result ≢ 0 → heights.new ≡ heights.old }
 {
-    let sum = sum_of(alloc, width, height, cylinder, heights, others);
+    let sum = sum_of(alloc, sides_of(width, height, cylinder), heights, others);
     answer_in(sum, heights)
 }

@@ -1,13 +1,31 @@
 //! The meaning of a call's arguments.
 
-ghost use Rattle.std.specs.Prelude.{◌≡◌, ◌<◌, ◌≤◌, Ok, Err, OnOk, IfOk, IfErr, IfSome, IfNone, length, sum};
+ghost use Rattle.std.specs.Prelude.{◌≡◌, ◌≢◌, ◌<◌, ◌≤◌, Ok, Err, OnOk, IfOk, IfErr, IfSome, IfNone, length, sum};
 ghost use Rattle.sand_model.specs.Piles.{most_grains};
 ghost use Rattle.sand_model.specs.Grid.{sites};
-ghost use Rattle.sand_c.specs.Arguments.{edge_of, grid_of, pile_on, pile_with, Fails};
+ghost use Rattle.sand_c.specs.Arguments.{sides_of, edge_of, grid_of, pile_of, pile_on, pile_with, Fails};
 
 use crate::faults::Fault;
 use sand_model::{Edge, GRAIN_LIMIT, Pile, Shape};
 use std::alloc::Global;
+
+/// The sides and the edge of a grid, as a caller gives them.
+#[derive(Clone, Copy)]
+pub(crate) struct Sides {
+    pub(crate) width: usize,
+    pub(crate) height: usize,
+    pub(crate) cylinder: bool,
+}
+
+pub(crate) fn sides_of(width: usize, height: usize, cylinder: bool) -> Sides
+    ensures { result ≡ sides_of width height cylinder }
+{
+    Sides {
+        width,
+        height,
+        cylinder,
+    }
+}
 
 fn edge_of(cylinder: bool) -> Edge
     ensures { result ≡ edge_of cylinder }
@@ -15,18 +33,18 @@ fn edge_of(cylinder: bool) -> Edge
     if cylinder { Edge::Cylinder } else { Edge::Open }
 }
 
-/// The grid with these sides and this edge.
-pub(crate) fn grid_of(width: usize, height: usize, cylinder: bool) -> Result<Shape, Fault>
-    ensures { result ≡ grid_of width height cylinder }
+/// The grid with these sides.
+pub(crate) fn grid_of(sides: Sides) -> Result<Shape, Fault>
+    ensures { result ≡ grid_of sides }
 {
-    match Shape::with_edge(width, height, edge_of(cylinder)) {
+    match Shape::with_edge(sides.width, sides.height, edge_of(sides.cylinder)) {
         Ok(shape) => Ok(shape),
         Err(fault) => Err(Fault::from(fault)),
     }
 }
 
-/// The pile with these heights.
-pub(crate) fn pile_on(alloc: Global, shape: Shape, heights: &[u64]) -> Result<Pile, Fault>
+// The pile with these heights.
+fn pile_on(alloc: Global, shape: Shape, heights: &[u64]) -> Result<Pile, Fault>
     ensures made { IfOk result (λ p. pile_on shape heights.now ≡ Ok p) }
     ensures fault { IfErr result (λ e. Fails e (pile_on shape heights.now)) }
 {
@@ -34,6 +52,15 @@ pub(crate) fn pile_on(alloc: Global, shape: Shape, heights: &[u64]) -> Result<Pi
         Ok(pile) => Ok(pile),
         Err(fault) => Err(Fault::from(fault)),
     }
+}
+
+/// The pile with these heights on the grid with these sides.
+pub(crate) fn pile_in(alloc: Global, sides: Sides, heights: &[u64]) -> Result<Pile, Fault>
+    ensures made { IfOk result (λ p. pile_of sides heights.now ≡ Ok p) }
+    ensures fault { IfErr result (λ e. Fails e (pile_of sides heights.now)) }
+{
+    let shape = grid_of(sides)?;
+    pile_on(alloc, shape, heights)
 }
 
 /// The sum of the heights, if it is within the limit.
@@ -54,21 +81,16 @@ pub(crate) fn grains_of(heights: &[u64]) -> Option<u64>
 
 /// The grid in the arguments, if it has as many sites as there are heights, and as there are places, and the sum of the
 /// heights is within the limit.
-pub(crate) fn grid_for(
-    width: usize,
-    height: usize,
-    cylinder: bool,
-    heights: &[u64],
-    places: usize,
-) -> Result<Shape, Fault>
-    ensures meant { IfOk result (λ g. pile_with width height cylinder heights.now places
+pub(crate) fn grid_for(sides: Sides, heights: &[u64], places: usize) -> Result<Shape, Fault>
+    ensures meant { IfOk result (λ g. pile_with sides heights.now places
         ≡ Ok (record { grid = g; heights = heights.now })) }
     ensures len { IfOk result (λ g. length heights.now ≡ sites g) }
     ensures places { IfOk result (λ g. places ≡ sites g) }
     ensures limit { OnOk result (sum heights.now ≤ most_grains) }
-    ensures fault { IfErr result (λ e. pile_with width height cylinder heights.now places ≡ Err e) }
+    ensures fault { IfErr result (λ e. pile_with sides heights.now places ≡ Err e) }
+    ensures known { IfErr result (λ e. e ≢ Fault.Memory) }
 {
-    let shape = grid_of(width, height, cylinder)?;
+    let shape = grid_of(sides)?;
     if heights.len() != shape.sites() || places != shape.sites() {
         return Err(Fault::Length);
     }

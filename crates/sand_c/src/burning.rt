@@ -1,13 +1,13 @@
 //! The burning test.
 
-ghost use Rattle.std.specs.Prelude.{◌≡◌, ◌≢◌, ◌≤◌, length, sum, take, drop, Ok, IfOk, OnOk, OnErr, IfErr};
+ghost use Rattle.std.specs.Prelude.{◌≡◌, ◌≢◌, ◌≤◌, length, sum, take, drop, Ok, IfOk, IfErr};
 ghost use Rattle.sand_model.specs.Grid.{sites};
 ghost use Rattle.sand_model.specs.Piles.{most_grains};
-ghost use Rattle.sand_c.specs.Arguments.{IsAnswer};
+ghost use Rattle.sand_c.specs.Arguments.{sides_of, pile_with, IsAnswer};
 ghost use Rattle.sand_c.specs.Burning.{burning_of, IsBurning, BurnFails, sites_in, burns_out};
 
-use crate::arguments::grid_for;
-use crate::faults::{Fault, answer};
+use crate::arguments::{Sides, grid_for, sides_of};
+use crate::faults::Fault;
 use sand_group::{Burned, burn};
 use sand_model::{Pile, Shape};
 use std::alloc::Global;
@@ -56,36 +56,19 @@ fn burned_on(alloc: Global, shape: Shape, heights: &[u64]) -> Result<Burned, Fau
     let Ok(pile) = Pile::new(alloc, shape, heights) else {
         return Err(Fault::Memory);
     };
-    let burned = burn(alloc, &pile);
-    // Freed here, so that no way out below has to.
-    drop(pile);
-    Ok(burned?)
+    let burned = burn(alloc, &pile)?;
+    Ok(burned)
 }
 
-fn burn_into(
-    alloc: Global,
-    width: usize,
-    height: usize,
-    cylinder: bool,
-    heights: &[u64],
-    found: &mut [usize],
-    count: &mut usize,
-    recurrent: &mut bool,
-) -> Result<(), Fault>
-    ensures burned { OnOk result
-        (IsBurning (burning_of width height cylinder heights.now found.old) found.new count.new recurrent.new) }
-    ensures rest { OnOk result (drop count.new found.new ≡ drop count.new found.old) }
-    ensures fault { IfErr result (λ e. BurnFails e (burning_of width height cylinder heights.now found.old)) }
-    ensures found { OnErr result (found.new ≡ found.old) }
-    ensures count { OnErr result (count.new ≡ count.old) }
-    ensures recurrent { OnErr result (recurrent.new ≡ recurrent.old) }
+// What burning the pile in the arguments finds, if there are `places` sites.
+fn burned_in(alloc: Global, sides: Sides, heights: &[u64], places: usize) -> Result<Burned, Fault>
+    ensures burned { IfOk result (λ b. IsBurning (pile_with sides heights.now places)
+        (sites_in b) (length (sites_in b)) (burns_out b)) }
+    ensures room { IfOk result (λ b. length (sites_in b) ≤ places) }
+    ensures fault { IfErr result (λ e. BurnFails e (pile_with sides heights.now places)) }
 {
-    let shape = grid_for(width, height, cylinder, heights, found.len())?;
-    let burned = burned_on(alloc, shape, heights)?;
-    let (written, all) = write_burned(found, &burned);
-    *count = written;
-    *recurrent = all;
-    Ok(())
+    let shape = grid_for(sides, heights, places)?;
+    burned_on(alloc, shape, heights)
 }
 
 /// Burns a stable pile. If it is recurrent, `found` becomes a burning order; if not, its first `count` places become
@@ -103,14 +86,25 @@ pub extern "C" fn sandpile_burn(
     recurrent: &mut bool,
 ) -> u32
     ensures burned { result ≡ 0
-        → IsBurning (burning_of width height cylinder heights.now found.old) found.new count.new recurrent.new }
+        → IsBurning (burning_of (sides_of width height cylinder) heights.now found.old) found.new count.new recurrent.new }
     ensures rest { result ≡ 0 → drop count.new found.new ≡ drop count.new found.old }
-    ensures answer { IsAnswer result (λ e. BurnFails e (burning_of width height cylinder heights.now found.old)) }
+    ensures answer { IsAnswer result (λ e. BurnFails e (burning_of (sides_of width height cylinder) heights.now found.old)) }
     ensures found { result ≢ 0 → found.new ≡ found.old }
     ensures count { result ≢ 0 → count.new ≡ count.old }
     ensures recurrent { result ≢ 0 → recurrent.new ≡ recurrent.old }
 {
-    answer(burn_into(
-        alloc, width, height, cylinder, heights, found, count, recurrent,
-    ))
+    match burned_in(
+        alloc,
+        sides_of(width, height, cylinder),
+        heights,
+        found.len(),
+    ) {
+        Ok(burned) => {
+            let (written, all) = write_burned(found, &burned);
+            *count = written;
+            *recurrent = all;
+            0
+        }
+        Err(fault) => fault.number(),
+    }
 }

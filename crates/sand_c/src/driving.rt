@@ -3,49 +3,25 @@
 //! Each call takes the pile out of its handle, works on it, and puts it back.
 
 ghost use Rattle.std.specs.Prelude.{◌≡◌, ◌≢◌, Err, IfOk, IfErr, OnOk, OnErr, IsOk, None, length};
-ghost use Rattle.sand_c.specs.Arguments.{Fails, Answers, Returns, pile_of};
+ghost use Rattle.sand_c.specs.Arguments.{sides_of, Fails, Answers, Returns, pile_of};
 ghost use Rattle.sand_c.specs.Driving.{IsDriveOf, Holds, LeadsTo, HaveDriven, HasDriven, IsReading, IsSiteOf, opening_of, driving_of, avalanche_of, entries_of, reading_of, with_site, site_of};
 
-use crate::arguments::{grid_of, pile_on};
+use crate::arguments::{Sides, pile_in, sides_of};
 use crate::avalanche::SandpileAvalanche;
 use crate::drive::Drive;
 use crate::drive_handle::SandpileDrive;
 use crate::faults::{Fault, answer};
-use sand_model::Pile;
 use std::alloc::Global;
 
-// The pile in the arguments.
-fn pile_of(
-    alloc: Global,
-    width: usize,
-    height: usize,
-    cylinder: bool,
-    heights: &[u64],
-) -> Result<Pile, Fault>
-    ensures made { IfOk result (λ p. pile_of width height cylinder heights.now ≡ Ok p) }
-    ensures fault { IfErr result (λ e. Fails e (pile_of width height cylinder heights.now)) }
-{
-    let shape = grid_of(width, height, cylinder)?;
-    pile_on(alloc, shape, heights)
-}
-
 // A driven pile with the start in the arguments, in a block of its own.
-fn drive_of(
-    alloc: Global,
-    width: usize,
-    height: usize,
-    cylinder: bool,
-    heights: &[u64],
-) -> Result<Box<Drive>, Fault>
-    ensures made { IfOk result (λ b. IsDriveOf (pile_of width height cylinder heights.now) b.value) }
-    ensures meant { OnOk result (IsOk (pile_of width height cylinder heights.now)) }
-    ensures fault { IfErr result (λ e. Fails e (pile_of width height cylinder heights.now)) }
+fn drive_of(alloc: Global, sides: Sides, heights: &[u64]) -> Result<Box<Drive>, Fault>
+    ensures made { IfOk result (λ b. IsDriveOf (pile_of sides heights.now) b.value) }
+    ensures meant { OnOk result (IsOk (pile_of sides heights.now)) }
+    ensures fault { IfErr result (λ e. Fails e (pile_of sides heights.now)) }
 {
-    let start = pile_of(alloc, width, height, cylinder, heights)?;
-    let drive = Drive::new(alloc, &start);
-    // Freed here, so that no way out below has to.
-    drop(start);
-    match Box::new(alloc, drive?) {
+    let start = pile_in(alloc, sides, heights)?;
+    let drive = Drive::new(alloc, &start)?;
+    match Box::new(alloc, drive) {
         Ok(held) => Ok(held),
         Err(_) => Err(Fault::Memory),
     }
@@ -53,24 +29,22 @@ fn drive_of(
 
 fn open(
     alloc: Global,
-    width: usize,
-    height: usize,
-    cylinder: bool,
+    sides: Sides,
     heights: &[u64],
     drive: &mut SandpileDrive,
 ) -> Result<(), Fault>
-    ensures made { OnOk result (Holds drive.new.held (IsDriveOf (pile_of width height cylinder heights.now))) }
+    ensures made { OnOk result (Holds drive.new.held (IsDriveOf (pile_of sides heights.now))) }
     ensures meant { OnOk result
-        (IsOk (opening_of drive.old.held (pile_of width height cylinder heights.now))) }
+        (IsOk (opening_of drive.old.held (pile_of sides heights.now))) }
     ensures fault { IfErr result
-        (λ e. Fails e (opening_of drive.old.held (pile_of width height cylinder heights.now))) }
+        (λ e. Fails e (opening_of drive.old.held (pile_of sides heights.now))) }
     ensures drive { OnErr result (drive.new.held ≡ drive.old.held) }
 {
     if let Some(held) = drive.take(alloc) {
         drive.put(held);
         return Err(Fault::Taken);
     }
-    let held = drive_of(alloc, width, height, cylinder, heights)?;
+    let held = drive_of(alloc, sides, heights)?;
     drive.put(held);
     Ok(())
 }
@@ -87,11 +61,11 @@ pub extern "C" fn sandpile_drive_new(
     heights: &[u64],
     drive: &mut SandpileDrive,
 ) -> u32
-    ensures made { result ≡ 0 → Holds drive.new.held (IsDriveOf (pile_of width height cylinder heights.now)) }
-    ensures answer { Answers result (opening_of drive.old.held (pile_of width height cylinder heights.now)) }
+    ensures made { result ≡ 0 → Holds drive.new.held (IsDriveOf (pile_of (sides_of width height cylinder) heights.now)) }
+    ensures answer { Answers result (opening_of drive.old.held (pile_of (sides_of width height cylinder) heights.now)) }
     ensures drive { result ≢ 0 → drive.new.held ≡ drive.old.held }
 {
-    answer(open(alloc, width, height, cylinder, heights, drive))
+    answer(open(alloc, sides_of(width, height, cylinder), heights, drive))
 }
 
 fn drop_on(
@@ -219,7 +193,7 @@ fn read_from(
     Ok(())
 }
 
-fn read_into(
+fn read(
     alloc: Global,
     drive: &mut SandpileDrive,
     heights: &mut [u64],
@@ -269,7 +243,7 @@ pub extern "C" fn sandpile_drive_read(
     ensures topplings { result ≢ 0 → topplings.new ≡ topplings.old }
     ensures lost { result ≢ 0 → lost.new ≡ lost.old }
 {
-    answer(read_into(alloc, drive, heights, odometer, topplings, lost))
+    answer(read(alloc, drive, heights, odometer, topplings, lost))
 }
 
 // Writes the height of a site of a driven pile, and how often it has toppled.
@@ -289,7 +263,7 @@ fn site_from(held: &Drive, site: usize, height: &mut u64, topplings: &mut u64) -
     Ok(())
 }
 
-fn site_into(
+fn read_site(
     alloc: Global,
     drive: &mut SandpileDrive,
     site: usize,
@@ -328,7 +302,7 @@ pub extern "C" fn sandpile_drive_site(
     ensures height { result ≢ 0 → height.new ≡ height.old }
     ensures topplings { result ≢ 0 → topplings.new ≡ topplings.old }
 {
-    answer(site_into(alloc, drive, site, height, topplings))
+    answer(read_site(alloc, drive, site, height, topplings))
 }
 
 /// Frees what the handle holds, and empties it.

@@ -4,10 +4,10 @@ ghost use Rattle.std.specs.Prelude.{◌≡◌, ◌≢◌, ◌+◌, ◌<◌, ◌�
 ghost use Rattle.sand_model.specs.Grid.{sites};
 ghost use Rattle.sand_model.specs.Piles.{PileView, most_grains};
 ghost use Rattle.sand_settle.specs.Drops.{grid_of_one_pile, IsAfter};
-ghost use Rattle.sand_c.specs.Arguments.{Fails, Answers};
+ghost use Rattle.sand_c.specs.Arguments.{sides_of, Fails, Answers};
 ghost use Rattle.sand_c.specs.Dropping.{AreAvalanches, IsDropping, dropping_of, are_sites, drops_on};
 
-use crate::arguments::{grains_of, grid_of};
+use crate::arguments::{Sides, grains_of, grid_of, sides_of};
 use crate::avalanche::SandpileAvalanche;
 use crate::faults::{Fault, answer};
 use sand_model::{GRAIN_LIMIT, Pile, Shape};
@@ -74,25 +74,23 @@ fn suit(shape: Shape, heights: &[u64], drops: &[usize]) -> Result<(), Fault>
 // The pile in the arguments.
 fn start_of(
     alloc: Global,
-    width: usize,
-    height: usize,
-    cylinder: bool,
+    sides: Sides,
     heights: &[u64],
     odometer: &[u64],
     drops: &[usize],
     avalanches: &[SandpileAvalanche],
 ) -> Result<Pile, Fault>
     ensures meant { IfOk result
-        (λ p. dropping_of width height cylinder heights.now odometer.now drops.now avalanches.now ≡ Ok p) }
+        (λ p. dropping_of sides heights.now odometer.now drops.now avalanches.now ≡ Ok p) }
     ensures fault { IfErr result
-        (λ e. Fails e (dropping_of width height cylinder heights.now odometer.now drops.now avalanches.now)) }
+        (λ e. Fails e (dropping_of sides heights.now odometer.now drops.now avalanches.now)) }
     ensures all { IfOk result (λ p. All (λ site. site < sites p.grid) drops.now) }
     ensures room { IfOk result (λ p. sum p.heights + length drops.now ≤ most_grains) }
     ensures odometer { IfOk result (λ p. length odometer.now ≡ sites p.grid) }
     ensures heights { IfOk result (λ p. length heights.now ≡ sites p.grid) }
     ensures avalanches { IfOk result (λ _. length avalanches.now ≡ length drops.now) }
 {
-    let shape = grid_of(width, height, cylinder)?;
+    let shape = grid_of(sides)?;
     if heights.len() != shape.sites()
         || odometer.len() != shape.sites()
         || avalanches.len() != drops.len()
@@ -127,34 +125,27 @@ fn dropped_on(
     Ok((pile.finish(), rows))
 }
 
-fn drop_into(
+fn drop_in_turn(
     alloc: Global,
-    width: usize,
-    height: usize,
-    cylinder: bool,
+    sides: Sides,
     heights: &mut [u64],
     odometer: &mut [u64],
     drops: &[usize],
     avalanches: &mut [SandpileAvalanche],
 ) -> Result<(), Fault>
     ensures dropped { OnOk result
-        (IsDropping (dropping_of width height cylinder heights.old odometer.old drops.now avalanches.old)
+        (IsDropping (dropping_of sides heights.old odometer.old drops.now avalanches.old)
         drops.now heights.new odometer.new avalanches.new) }
     ensures fault { IfErr result
-        (λ e. Fails e (dropping_of width height cylinder heights.old odometer.old drops.now avalanches.old)) }
+        (λ e. Fails e (dropping_of sides heights.old odometer.old drops.now avalanches.old)) }
     ensures meant { OnOk result
-        (IsOk (dropping_of width height cylinder heights.old odometer.old drops.now avalanches.old)) }
+        (IsOk (dropping_of sides heights.old odometer.old drops.now avalanches.old)) }
     ensures heights { OnErr result (heights.new ≡ heights.old) }
     ensures odometer { OnErr result (odometer.new ≡ odometer.old) }
     ensures avalanches { OnErr result (avalanches.new ≡ avalanches.old) }
 {
-    let start = start_of(
-        alloc, width, height, cylinder, heights, odometer, drops, avalanches,
-    )?;
-    let dropped = dropped_on(alloc, &start, drops);
-    // Freed here, so that no way out below has to.
-    drop(start);
-    let (last, rows) = dropped?;
+    let start = start_of(alloc, sides, heights, odometer, drops, avalanches)?;
+    let (last, rows) = dropped_on(alloc, &start, drops)?;
     heights.copy_from_slice(last.pile().heights());
     odometer.copy_from_slice(last.odometers());
     avalanches.copy_from_slice(rows.as_slice());
@@ -177,15 +168,14 @@ pub extern "C" fn sandpile_drop(
     avalanches: &mut [SandpileAvalanche],
 ) -> u32
     ensures dropped { result ≡ 0
-        → IsDropping (dropping_of width height cylinder heights.old odometer.old drops.now avalanches.old)
+        → IsDropping (dropping_of (sides_of width height cylinder) heights.old odometer.old drops.now avalanches.old)
         drops.now heights.new odometer.new avalanches.new }
     ensures answer { Answers result
-        (dropping_of width height cylinder heights.old odometer.old drops.now avalanches.old) }
+        (dropping_of (sides_of width height cylinder) heights.old odometer.old drops.now avalanches.old) }
     ensures heights { result ≢ 0 → heights.new ≡ heights.old }
     ensures odometer { result ≢ 0 → odometer.new ≡ odometer.old }
     ensures avalanches { result ≢ 0 → avalanches.new ≡ avalanches.old }
 {
-    answer(drop_into(
-        alloc, width, height, cylinder, heights, odometer, drops, avalanches,
-    ))
+    let sides = sides_of(width, height, cylinder);
+    answer(drop_in_turn(alloc, sides, heights, odometer, drops, avalanches))
 }

@@ -1,29 +1,23 @@
 //! The group of recurrent piles.
 
 ghost use Rattle.std.specs.Prelude.{◌≡◌, ◌≢◌, length, OnOk, IfOk, IfErr, IsOk};
-ghost use Rattle.sand_c.specs.Arguments.{Fails, Answers};
-ghost use Rattle.sand_c.specs.Group.{identity_of, recurrent_of, IsIdentityOf, IsRecurrentOf};
+ghost use Rattle.sand_c.specs.Arguments.{sides_of, pile_of, Fails, Answers};
+ghost use Rattle.sand_c.specs.Group.{identity_of, IsIdentityOf, IsRecurrentOf};
 
-use crate::arguments::{grid_of, pile_on};
+use crate::arguments::{Sides, grid_of, pile_in, sides_of};
 use crate::faults::Fault;
 use crate::recurrent::answer_in;
 use sand_group::{Recurrent, equivalent_recurrent, identity};
 use std::alloc::Global;
 
 // The identity of the group on the grid in the arguments.
-fn identity_for(
-    alloc: Global,
-    width: usize,
-    height: usize,
-    cylinder: bool,
-    heights: &[u64],
-) -> Result<Recurrent, Fault>
-    ensures meant { OnOk result (IsOk (identity_of width height cylinder heights.now)) }
-    ensures identity { IfOk result (λ c. IsIdentityOf (identity_of width height cylinder heights.now) c.heights) }
+fn identity_for(alloc: Global, sides: Sides, heights: &[u64]) -> Result<Recurrent, Fault>
+    ensures meant { OnOk result (IsOk (identity_of sides heights.now)) }
+    ensures identity { IfOk result (λ c. IsIdentityOf (identity_of sides heights.now) c.heights) }
     ensures len { IfOk result (λ c. length c.heights ≡ length heights.now) }
-    ensures fault { IfErr result (λ e. Fails e (identity_of width height cylinder heights.now)) }
+    ensures fault { IfErr result (λ e. Fails e (identity_of sides heights.now)) }
 {
-    let shape = grid_of(width, height, cylinder)?;
+    let shape = grid_of(sides)?;
     if heights.len() != shape.sites() {
         return Err(Fault::Length);
     }
@@ -41,33 +35,24 @@ pub extern "C" fn sandpile_identity(
     cylinder: bool,
     heights: &mut [u64],
 ) -> u32
-    ensures identity { result ≡ 0 → IsIdentityOf (identity_of width height cylinder heights.old) heights.new }
-    ensures answer { Answers result (identity_of width height cylinder heights.old) }
+    ensures identity { result ≡ 0 → IsIdentityOf (identity_of (sides_of width height cylinder) heights.old) heights.new }
+    ensures answer { Answers result (identity_of (sides_of width height cylinder) heights.old) }
     ensures heights { result ≢ 0 → heights.new ≡ heights.old }
 {
-    let neutral = identity_for(alloc, width, height, cylinder, heights);
+    let neutral = identity_for(alloc, sides_of(width, height, cylinder), heights);
     answer_in(neutral, heights)
 }
 
 // The recurrent pile equivalent to the one in the arguments.
-fn recurrent_for(
-    alloc: Global,
-    width: usize,
-    height: usize,
-    cylinder: bool,
-    heights: &[u64],
-) -> Result<Recurrent, Fault>
-    ensures meant { OnOk result (IsOk (recurrent_of width height cylinder heights.now)) }
-    ensures recurrent { IfOk result (λ c. IsRecurrentOf (recurrent_of width height cylinder heights.now) c.heights) }
+fn recurrent_for(alloc: Global, sides: Sides, heights: &[u64]) -> Result<Recurrent, Fault>
+    ensures meant { OnOk result (IsOk (pile_of sides heights.now)) }
+    ensures recurrent { IfOk result (λ c. IsRecurrentOf (pile_of sides heights.now) c.heights) }
     ensures len { IfOk result (λ c. length c.heights ≡ length heights.now) }
-    ensures fault { IfErr result (λ e. Fails e (recurrent_of width height cylinder heights.now)) }
+    ensures fault { IfErr result (λ e. Fails e (pile_of sides heights.now)) }
 {
-    let shape = grid_of(width, height, cylinder)?;
-    let pile = pile_on(alloc, shape, heights)?;
-    let recurrent = equivalent_recurrent(alloc, &pile);
-    // Freed here, so that no way out below has to.
-    drop(pile);
-    Ok(recurrent?)
+    let pile = pile_in(alloc, sides, heights)?;
+    let recurrent = equivalent_recurrent(alloc, &pile)?;
+    Ok(recurrent)
 }
 
 /// Replaces the heights with those of the unique recurrent pile equivalent to the pile. Returns 0, or the first of 1
@@ -81,10 +66,10 @@ pub extern "C" fn sandpile_recurrent(
     cylinder: bool,
     heights: &mut [u64],
 ) -> u32
-    ensures recurrent { result ≡ 0 → IsRecurrentOf (recurrent_of width height cylinder heights.old) heights.new }
-    ensures answer { Answers result (recurrent_of width height cylinder heights.old) }
+    ensures recurrent { result ≡ 0 → IsRecurrentOf (pile_of (sides_of width height cylinder) heights.old) heights.new }
+    ensures answer { Answers result (pile_of (sides_of width height cylinder) heights.old) }
     ensures heights { result ≢ 0 → heights.new ≡ heights.old }
 {
-    let recurrent = recurrent_for(alloc, width, height, cylinder, heights);
+    let recurrent = recurrent_for(alloc, sides_of(width, height, cylinder), heights);
     answer_in(recurrent, heights)
 }

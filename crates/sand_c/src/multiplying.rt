@@ -1,33 +1,25 @@
 //! The n-fold sum of a recurrent pile.
 
 ghost use Rattle.std.specs.Prelude.{◌≡◌, ◌≢◌, length, IfOk, IfErr};
-ghost use Rattle.sand_c.specs.Arguments.{IsAnswer};
+ghost use Rattle.sand_c.specs.Arguments.{sides_of, IsAnswer};
 ghost use Rattle.sand_c.specs.Multiplying.{IsMultiplying};
 ghost use Rattle.sand_c.specs.Unfit.{ElementFails, element_of};
 
+use crate::arguments::{Sides, sides_of};
 use crate::faults::Fault;
 use crate::recurrent::{answer_in, element_of};
 use sand_group::{Recurrent, multiple};
 use std::alloc::Global;
 
 // The n-fold sum of the pile in the arguments.
-fn multiple_of(
-    alloc: Global,
-    width: usize,
-    height: usize,
-    cylinder: bool,
-    heights: &[u64],
-    n: u64,
-) -> Result<Recurrent, Fault>
-    ensures multiplied { IfOk result (λ c. IsMultiplying (element_of width height cylinder heights.now) n c.heights) }
+fn multiple_of(alloc: Global, sides: Sides, heights: &[u64], n: u64) -> Result<Recurrent, Fault>
+    ensures multiplied { IfOk result (λ c. IsMultiplying (element_of sides heights.now) n c.heights) }
     ensures len { IfOk result (λ c. length c.heights ≡ length heights.now) }
-    ensures fault { IfErr result (λ e. ElementFails e (element_of width height cylinder heights.now)) }
+    ensures fault { IfErr result (λ e. ElementFails e (element_of sides heights.now)) }
 {
-    let pile = element_of(alloc, width, height, cylinder, heights)?;
-    let sum = multiple(alloc, &pile, n);
-    // Freed here, so that no way out below has to.
-    drop(pile);
-    Ok(sum?)
+    let pile = element_of(alloc, sides, heights)?;
+    let sum = multiple(alloc, &pile, n)?;
+    Ok(sum)
 }
 
 /// Replaces the heights with those of the n-fold sum of a recurrent pile. Returns 0, or the first of 1 (Side), 24
@@ -41,10 +33,10 @@ pub extern "C" fn sandpile_multiple(
     heights: &mut [u64],
     n: u64,
 ) -> u32
-    ensures multiplied { result ≡ 0 → IsMultiplying (element_of width height cylinder heights.old) n heights.new }
-    ensures answer { IsAnswer result (λ e. ElementFails e (element_of width height cylinder heights.old)) }
+    ensures multiplied { result ≡ 0 → IsMultiplying (element_of (sides_of width height cylinder) heights.old) n heights.new }
+    ensures answer { IsAnswer result (λ e. ElementFails e (element_of (sides_of width height cylinder) heights.old)) }
     ensures heights { result ≢ 0 → heights.new ≡ heights.old }
 {
-    let sum = multiple_of(alloc, width, height, cylinder, heights, n);
+    let sum = multiple_of(alloc, sides_of(width, height, cylinder), heights, n);
     answer_in(sum, heights)
 }

@@ -1,11 +1,11 @@
 //! The record of a shared pile, by a pass that has gathered everything.
 
-ghost use Rattle.std.specs.Prelude.{◌≡◌, ◌≢◌, length, IfErr, OnOk, OnErr, IsOk};
+ghost use Rattle.std.specs.Prelude.{◌≡◌, ◌≢◌, length, IfOk, IfErr};
 ghost use Rattle.sand_c.specs.Arguments.{IsAnswer};
 ghost use Rattle.sand_c.specs.Driving.{Holds};
 ghost use Rattle.sand_c.specs.Passing.{IsRecordTo, RecordFails, record_to, recording_of};
 
-use crate::faults::{Fault, answer};
+use crate::faults::Fault;
 use crate::owned_pass::OwnedPass;
 use crate::pass_handle::SandpilePass;
 use sand_shared::Record;
@@ -36,60 +36,50 @@ fn write(
     *lost = settled.lost();
 }
 
-fn record_into(
+// The record that a pass makes, if arrays of these lengths suit it.
+fn record_by(
     alloc: Global,
     held: &mut OwnedPass,
-    heights: &mut [u64],
-    odometer: &mut [u64],
-    history: &mut [usize],
-    topplings: &mut u64,
-    lost: &mut u64,
-) -> Result<(), Fault>
-    ensures settled { OnOk result (IsRecordTo heights.new odometer.new history.new topplings.new lost.new held.old) }
-    ensures fault { IfErr result
-        (λ e. RecordFails e (record_to held.old (length heights.old) (length odometer.old) (length history.old))) }
+    heights: usize,
+    odometer: usize,
+    history: usize,
+) -> Result<Record, Fault>
+    ensures settled { IfOk result (λ r. IsRecordTo
+        r.settled.pile.heights r.settled.odometer r.history r.settled.topplings r.settled.lost held.old) }
+    ensures fault { IfErr result (λ e. RecordFails e (record_to held.old heights odometer history)) }
     ensures held { held.new ≡ held.old }
-    ensures heights { OnErr result (heights.new ≡ heights.old) }
-    ensures odometer { OnErr result (odometer.new ≡ odometer.old) }
-    ensures history { OnErr result (history.new ≡ history.old) }
-    ensures topplings { OnErr result (topplings.new ≡ topplings.old) }
-    ensures lost { OnErr result (lost.new ≡ lost.old) }
+    ensures heights { IfOk result (λ r. heights ≡ length r.settled.pile.heights) }
+    ensures odometer { IfOk result (λ r. odometer ≡ length r.settled.odometer) }
+    ensures history { IfOk result (λ r. history ≡ length r.history) }
 {
     let sites = held.sites();
-    if heights.len() != sites || odometer.len() != sites || history.len() != held.drops() {
+    if heights != sites || odometer != sites || history != held.drops() {
         return Err(Fault::Length);
     }
     let settled = held.record_now(alloc)?;
-    write(&settled, heights, odometer, history, topplings, lost);
-    Ok(())
+    Ok(settled)
 }
 
-fn settle_into(
+// The same, by the pass that a handle holds.
+fn record_in(
     alloc: Global,
     pass: &mut SandpilePass,
-    heights: &mut [u64],
-    odometer: &mut [u64],
-    history: &mut [usize],
-    topplings: &mut u64,
-    lost: &mut u64,
-) -> Result<(), Fault>
-    ensures settled { OnOk result
-        (Holds pass.old.held (IsRecordTo heights.new odometer.new history.new topplings.new lost.new)) }
-    ensures fault { IfErr result (λ e. RecordFails e
-        (recording_of pass.old.held (length heights.old) (length odometer.old) (length history.old))) }
+    heights: usize,
+    odometer: usize,
+    history: usize,
+) -> Result<Record, Fault>
+    ensures settled { IfOk result (λ r. Holds pass.old.held (IsRecordTo
+        r.settled.pile.heights r.settled.odometer r.history r.settled.topplings r.settled.lost)) }
+    ensures fault { IfErr result (λ e. RecordFails e (recording_of pass.old.held heights odometer history)) }
     ensures pass { pass.new.held ≡ pass.old.held }
-    ensures heights { OnErr result (heights.new ≡ heights.old) }
-    ensures odometer { OnErr result (odometer.new ≡ odometer.old) }
-    ensures history { OnErr result (history.new ≡ history.old) }
-    ensures topplings { OnErr result (topplings.new ≡ topplings.old) }
-    ensures lost { OnErr result (lost.new ≡ lost.old) }
+    ensures heights { IfOk result (λ r. heights ≡ length r.settled.pile.heights) }
+    ensures odometer { IfOk result (λ r. odometer ≡ length r.settled.odometer) }
+    ensures history { IfOk result (λ r. history ≡ length r.history) }
 {
     let Some(mut held) = pass.take(alloc) else {
         return Err(Fault::Empty);
     };
-    let settled = record_into(
-        alloc, &mut held, heights, odometer, history, topplings, lost,
-    );
+    let settled = record_by(alloc, &mut held, heights, odometer, history);
     pass.put(held);
     settled
 }
@@ -119,5 +109,11 @@ pub extern "C" fn sandpile_pass_settle(
     ensures topplings { result ≢ 0 → topplings.new ≡ topplings.old }
     ensures lost { result ≢ 0 → lost.new ≡ lost.old }
 {
-    answer(settle_into(alloc, pass, heights, odometer, history, topplings, lost))
+    match record_in(alloc, pass, heights.len(), odometer.len(), history.len()) {
+        Ok(settled) => {
+            write(&settled, heights, odometer, history, topplings, lost);
+            0
+        }
+        Err(fault) => fault.number(),
+    }
 }

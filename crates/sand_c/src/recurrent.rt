@@ -7,7 +7,7 @@ ghost use Rattle.sand_group.specs.Recurrence.{IsRecurrent};
 ghost use Rattle.sand_c.specs.Faults.{number_of};
 ghost use Rattle.sand_c.specs.Unfit.{ElementFails, IsUnfit, element_of};
 
-use crate::arguments::{grains_of, grid_of};
+use crate::arguments::{Sides, grains_of, grid_of};
 use crate::faults::Fault;
 use sand_group::Recurrent;
 use sand_model::{Pile, Shape};
@@ -32,19 +32,13 @@ pub(crate) fn recurrent_on(alloc: Global, shape: Shape, heights: &[u64]) -> Resu
 }
 
 /// The recurrent pile in the arguments.
-pub(crate) fn element_of(
-    alloc: Global,
-    width: usize,
-    height: usize,
-    cylinder: bool,
-    heights: &[u64],
-) -> Result<Recurrent, Fault>
-    ensures meant { IfOk result (λ c. element_of width height cylinder heights.now ≡ Ok c) }
+pub(crate) fn element_of(alloc: Global, sides: Sides, heights: &[u64]) -> Result<Recurrent, Fault>
+    ensures meant { IfOk result (λ c. element_of sides heights.now ≡ Ok c) }
     ensures recurrent { IfOk result (λ c. IsRecurrent c.grid (height_of c)) }
     ensures len { IfOk result (λ c. length heights.now ≡ sites c.grid) }
-    ensures fault { IfErr result (λ e. ElementFails e (element_of width height cylinder heights.now)) }
+    ensures fault { IfErr result (λ e. ElementFails e (element_of sides heights.now)) }
 {
-    let shape = grid_of(width, height, cylinder)?;
+    let shape = grid_of(sides)?;
     if heights.len() != shape.sites() {
         return Err(Fault::Length);
     }

@@ -6,10 +6,10 @@
 ghost use Rattle.std.specs.Prelude.{◌≡◌, ◌≢◌, ◌+◌, ◌*◌, ◌<◌, ◌≤◌, ℕ, true, length, Ok, OnOk, OnErr, IfOk, IfErr, IsOk, IsOkUnless};
 ghost use Rattle.std.specs.Fork.{slice_chunk};
 ghost use Rattle.sand_model.specs.Grid.{sites};
-ghost use Rattle.sand_c.specs.Arguments.{grid_of, Fails, Answers};
+ghost use Rattle.sand_c.specs.Arguments.{sides_of, grid_of, Fails, Answers};
 ghost use Rattle.sand_c.specs.SettlingAll.{are_within, settling_all_of, IsSettlingAt, AreRecords};
 
-use crate::arguments::{grains_of, grid_of};
+use crate::arguments::{Sides, grains_of, grid_of, sides_of};
 use crate::faults::{Fault, answer};
 use sand_model::Shape;
 use sand_settle::{Totals, settle_in_place};
@@ -94,25 +94,23 @@ fn are_within(heights: &[u64], sites: usize, count: usize) -> bool
 // The grid in the arguments, if all slices have the length for as many piles as `lost` has places, and each pile is within
 // the limit.
 fn grid_for_all(
-    width: usize,
-    height: usize,
-    cylinder: bool,
+    sides: Sides,
     heights: &[u64],
     odometer: &[u64],
     lost: &[u64],
     topplings: &[u64],
 ) -> Result<Shape, Fault>
     ensures meant { IfOk result
-        (λ g. settling_all_of width height cylinder heights.now odometer.now lost.now topplings.now ≡ Ok g) }
-    ensures grid { IfOk result (λ g. grid_of width height cylinder ≡ Ok g) }
+        (λ g. settling_all_of sides heights.now odometer.now lost.now topplings.now ≡ Ok g) }
+    ensures grid { IfOk result (λ g. grid_of sides ≡ Ok g) }
     ensures within { IfOk result (λ g. are_within (sites g) heights.now (length lost.now) ≡ true) }
     ensures heights { IfOk result (λ g. length heights.now ≡ length lost.now * sites g) }
     ensures odometer { IfOk result (λ g. length odometer.now ≡ length lost.now * sites g) }
     ensures topplings { OnOk result (length topplings.now ≡ length lost.now) }
     ensures fault { IfErr result
-        (λ e. Fails e (settling_all_of width height cylinder heights.now odometer.now lost.now topplings.now)) }
+        (λ e. Fails e (settling_all_of sides heights.now odometer.now lost.now topplings.now)) }
 {
-    let shape = grid_of(width, height, cylinder)?;
+    let shape = grid_of(sides)?;
     if topplings.len() != lost.len() {
         return Err(Fault::Length);
     }
@@ -152,28 +150,26 @@ fn settle_each(
     Ok(all)
 }
 
-fn settle_all_into(
+fn settle_all(
     alloc: Global,
-    width: usize,
-    height: usize,
-    cylinder: bool,
+    sides: Sides,
     heights: &mut [u64],
     odometer: &mut [u64],
     lost: &mut [u64],
     topplings: &mut [u64],
 ) -> Result<(), Fault>
-    ensures settled { OnOk result ((j : ℕ) → j < length lost.old → IsSettlingAt j width height cylinder
+    ensures settled { OnOk result ((j : ℕ) → j < length lost.old → IsSettlingAt j sides
         heights.old odometer.old heights.new odometer.new lost.new topplings.new) }
     ensures meant { OnOk result
-        (IsOk (settling_all_of width height cylinder heights.old odometer.old lost.old topplings.old)) }
+        (IsOk (settling_all_of sides heights.old odometer.old lost.old topplings.old)) }
     ensures fault { IfErr result
-        (λ e. Fails e (settling_all_of width height cylinder heights.old odometer.old lost.old topplings.old)) }
+        (λ e. Fails e (settling_all_of sides heights.old odometer.old lost.old topplings.old)) }
     ensures heights { OnErr result (heights.new ≡ heights.old) }
     ensures odometer { OnErr result (odometer.new ≡ odometer.old) }
     ensures lost { OnErr result (lost.new ≡ lost.old) }
     ensures topplings { OnErr result (topplings.new ≡ topplings.old) }
 {
-    let shape = grid_for_all(width, height, cylinder, heights, odometer, lost, topplings)?;
+    let shape = grid_for_all(sides, heights, odometer, lost, topplings)?;
     let all = settle_each(alloc, shape, heights, lost.len())?;
     heights.copy_from_slice(&all.heights);
     odometer.copy_from_slice(&all.odometer);
@@ -197,16 +193,15 @@ pub extern "C" fn sandpile_settle_all(
     lost: &mut [u64],
     topplings: &mut [u64],
 ) -> u32
-    ensures settled { result ≡ 0 → (j : ℕ) → j < length lost.old → IsSettlingAt j width height cylinder
+    ensures settled { result ≡ 0 → (j : ℕ) → j < length lost.old → IsSettlingAt j (sides_of width height cylinder)
         heights.old odometer.old heights.new odometer.new lost.new topplings.new }
     ensures answer { Answers result
-        (settling_all_of width height cylinder heights.old odometer.old lost.old topplings.old) }
+        (settling_all_of (sides_of width height cylinder) heights.old odometer.old lost.old topplings.old) }
     ensures heights { result ≢ 0 → heights.new ≡ heights.old }
     ensures odometer { result ≢ 0 → odometer.new ≡ odometer.old }
     ensures lost { result ≢ 0 → lost.new ≡ lost.old }
     ensures topplings { result ≢ 0 → topplings.new ≡ topplings.old }
 {
-    answer(settle_all_into(
-        alloc, width, height, cylinder, heights, odometer, lost, topplings,
-    ))
+    let sides = sides_of(width, height, cylinder);
+    answer(settle_all(alloc, sides, heights, odometer, lost, topplings))
 }

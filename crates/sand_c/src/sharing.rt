@@ -3,11 +3,11 @@
 ghost use Rattle.std.specs.Prelude.{◌≡◌, ◌≢◌, ◌+◌, ◌≤◌, length, sum, Ok, Err, IfOk, IfErr, OnOk, OnErr, IsOk};
 ghost use Rattle.sand_model.specs.Grid.{sites};
 ghost use Rattle.sand_model.specs.Piles.{most_grains};
-ghost use Rattle.sand_c.specs.Arguments.{Fails, Answers, pile_on, pile_of};
+ghost use Rattle.sand_c.specs.Arguments.{sides_of, Fails, Answers, pile_on, pile_of};
 ghost use Rattle.sand_c.specs.Driving.{Holds};
 ghost use Rattle.sand_c.specs.Passing.{IsFirstOf, GivesAway, AreSplit, AreSplitByRows, with_quota_of, sharing_of, splitting_of, splitting_rows_of};
 
-use crate::arguments::{grains_of, grid_of};
+use crate::arguments::{Sides, grains_of, grid_of, sides_of};
 use crate::faults::{Fault, answer};
 use crate::owned_pass::OwnedPass;
 use crate::pass_handle::SandpilePass;
@@ -46,20 +46,13 @@ fn suit(shape: Shape, heights: &[u64], quota: u64) -> Result<(), Fault>
 }
 
 // The pile in the arguments, if the quota is within the limit.
-fn start_of(
-    alloc: Global,
-    width: usize,
-    height: usize,
-    cylinder: bool,
-    heights: &[u64],
-    quota: u64,
-) -> Result<Pile, Fault>
-    ensures meant { IfOk result (λ p. with_quota_of (pile_of width height cylinder heights.now) quota ≡ Ok p) }
-    ensures start { IfOk result (λ p. pile_of width height cylinder heights.now ≡ Ok p) }
+fn start_of(alloc: Global, sides: Sides, heights: &[u64], quota: u64) -> Result<Pile, Fault>
+    ensures meant { IfOk result (λ p. with_quota_of (pile_of sides heights.now) quota ≡ Ok p) }
+    ensures start { IfOk result (λ p. pile_of sides heights.now ≡ Ok p) }
     ensures room { IfOk result (λ p. sum p.heights + quota ≤ most_grains) }
-    ensures fault { IfErr result (λ e. Fails e (with_quota_of (pile_of width height cylinder heights.now) quota)) }
+    ensures fault { IfErr result (λ e. Fails e (with_quota_of (pile_of sides heights.now) quota)) }
 {
-    let shape = grid_of(width, height, cylinder)?;
+    let shape = grid_of(sides)?;
     suit(shape, heights, quota)?;
     match Pile::new(alloc, shape, heights) {
         Ok(start) => Ok(start),
@@ -71,44 +64,38 @@ fn start_of(
 // The first pass of a shared pile with the start in the arguments, in a block of its own.
 fn first_of(
     alloc: Global,
-    width: usize,
-    height: usize,
-    cylinder: bool,
+    sides: Sides,
     heights: &[u64],
     quota: u64,
 ) -> Result<Box<OwnedPass>, Fault>
-    ensures made { IfOk result (λ b. IsFirstOf (pile_of width height cylinder heights.now) quota b.value) }
-    ensures meant { OnOk result (IsOk (with_quota_of (pile_of width height cylinder heights.now) quota)) }
-    ensures fault { IfErr result (λ e. Fails e (with_quota_of (pile_of width height cylinder heights.now) quota)) }
+    ensures made { IfOk result (λ b. IsFirstOf (pile_of sides heights.now) quota b.value) }
+    ensures meant { OnOk result (IsOk (with_quota_of (pile_of sides heights.now) quota)) }
+    ensures fault { IfErr result (λ e. Fails e (with_quota_of (pile_of sides heights.now) quota)) }
 {
-    let start = start_of(alloc, width, height, cylinder, heights, quota)?;
-    let first = OwnedPass::first(alloc, &start, quota);
-    // Freed here, so that no way out below has to.
-    drop(start);
-    boxed(alloc, first?)
+    let start = start_of(alloc, sides, heights, quota)?;
+    let first = OwnedPass::first(alloc, &start, quota)?;
+    boxed(alloc, first)
 }
 
 fn share(
     alloc: Global,
-    width: usize,
-    height: usize,
-    cylinder: bool,
+    sides: Sides,
     heights: &[u64],
     quota: u64,
     pass: &mut SandpilePass,
 ) -> Result<(), Fault>
-    ensures made { OnOk result (Holds pass.new.held (IsFirstOf (pile_of width height cylinder heights.now) quota)) }
+    ensures made { OnOk result (Holds pass.new.held (IsFirstOf (pile_of sides heights.now) quota)) }
     ensures meant { OnOk result
-        (IsOk (sharing_of pass.old.held (pile_of width height cylinder heights.now) quota)) }
+        (IsOk (sharing_of pass.old.held (pile_of sides heights.now) quota)) }
     ensures fault { IfErr result
-        (λ e. Fails e (sharing_of pass.old.held (pile_of width height cylinder heights.now) quota)) }
+        (λ e. Fails e (sharing_of pass.old.held (pile_of sides heights.now) quota)) }
     ensures pass { OnErr result (pass.new.held ≡ pass.old.held) }
 {
     if let Some(held) = pass.take(alloc) {
         pass.put(held);
         return Err(Fault::Taken);
     }
-    let held = first_of(alloc, width, height, cylinder, heights, quota)?;
+    let held = first_of(alloc, sides, heights, quota)?;
     pass.put(held);
     Ok(())
 }
@@ -127,11 +114,12 @@ pub extern "C" fn sandpile_shared_new(
     quota: u64,
     pass: &mut SandpilePass,
 ) -> u32
-    ensures made { result ≡ 0 → Holds pass.new.held (IsFirstOf (pile_of width height cylinder heights.now) quota) }
-    ensures answer { Answers result (sharing_of pass.old.held (pile_of width height cylinder heights.now) quota) }
+    ensures made { result ≡ 0 → Holds pass.new.held (IsFirstOf (pile_of (sides_of width height cylinder) heights.now) quota) }
+    ensures answer { Answers result (sharing_of pass.old.held (pile_of (sides_of width height cylinder) heights.now) quota) }
     ensures pass { result ≢ 0 → pass.new.held ≡ pass.old.held }
 {
-    answer(share(alloc, width, height, cylinder, heights, quota, pass))
+    let sides = sides_of(width, height, cylinder);
+    answer(share(alloc, sides, heights, quota, pass))
 }
 
 fn split_off(

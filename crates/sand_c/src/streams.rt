@@ -1,42 +1,20 @@
 //! The numbered streams of drop sites.
 
-ghost use Rattle.std.specs.Prelude.{◌≡◌, ◌≢◌, ◌+◌, ◌<◌, ◌^◌, Err, length, OnOk, OnErr, IfErr};
-ghost use Rattle.sand_c.specs.Arguments.{grid_of, IsAnswer};
+ghost use Rattle.std.specs.Prelude.{◌≡◌, ◌≢◌, ◌+◌, ◌<◌, ◌^◌, Err, length};
+ghost use Rattle.sand_c.specs.Arguments.{sides_of, grid_of, IsAnswer};
 ghost use Rattle.sand_c.specs.Streams.{AreSitesFrom, IsDrawing};
 
-use crate::arguments::grid_of;
-use crate::faults::{Fault, answer};
+use crate::arguments::{grid_of, sides_of};
 use sand_streams::SiteReader;
 
 // Fills the places with sites, in order.
-fn read_into(reader: &mut SiteReader, places: &mut [usize])
+fn fill(reader: &mut SiteReader, places: &mut [usize])
     requires { reader.old.read + length places.old < 2 ^ 68 }
     ensures { AreSitesFrom reader.old.sites reader.old.seed reader.old.stream reader.old.read places.new }
 {
     for place in places.iter_mut() {
         *place = reader.next_site();
     }
-}
-
-// Writes the sites if the grid is valid.
-fn sites_into(
-    width: usize,
-    height: usize,
-    cylinder: bool,
-    seed: u64,
-    stream: u64,
-    from: u64,
-    sites: &mut [usize],
-) -> Result<(), Fault>
-    ensures drawn { OnOk result (IsDrawing (grid_of width height cylinder) seed stream from sites.new) }
-    ensures fault { IfErr result (λ e. grid_of width height cylinder ≡ Err e) }
-    ensures sites { OnErr result (sites.new ≡ sites.old) }
-{
-    let shape = grid_of(width, height, cylinder)?;
-    let mut reader = SiteReader::new(shape, seed, stream);
-    reader.go_to(from);
-    read_into(&mut reader, sites);
-    Ok(())
 }
 
 /// Writes the sites of a stream of drops on a grid, from its place `from` on. Returns 0, or the first of 1 (Side) and
@@ -51,9 +29,17 @@ pub extern "C" fn sandpile_sites(
     from: u64,
     sites: &mut [usize],
 ) -> u32
-    ensures drawn { result ≡ 0 → IsDrawing (grid_of width height cylinder) seed stream from sites.new }
-    ensures answer { IsAnswer result (λ e. grid_of width height cylinder ≡ Err e) }
+    ensures drawn { result ≡ 0 → IsDrawing (grid_of (sides_of width height cylinder)) seed stream from sites.new }
+    ensures answer { IsAnswer result (λ e. grid_of (sides_of width height cylinder) ≡ Err e) }
     ensures sites { result ≢ 0 → sites.new ≡ sites.old }
 {
-    answer(sites_into(width, height, cylinder, seed, stream, from, sites))
+    match grid_of(sides_of(width, height, cylinder)) {
+        Ok(shape) => {
+            let mut reader = SiteReader::new(shape, seed, stream);
+            reader.go_to(from);
+            fill(&mut reader, sites);
+            0
+        }
+        Err(fault) => fault.number(),
+    }
 }

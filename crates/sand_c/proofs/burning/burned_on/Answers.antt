@@ -9,13 +9,13 @@ use Rattle.sand_c.proofs.burning.burned_on.Goals as goal
 pub returns-clause-burned : goal.returns-clause-burned
 returns-clause-burned c =
     let pile : PileView = c.in-Ok.pile in
-    let burned = c.in_ok-burned.field-0 in
+    let burned = c.in_ok-burned.burned in
     let xs = sites_in burned in
     record {
       pile = pile;
       meant = search rules;
-      stable = burnt pile.grid (height_of pile) c.burn-burned.result burned c.in_ok-burned.was
-          c.burn-burned.ensures.unstable;
+      stable = burnt pile.grid (height_of pile) c.burn.result burned c.in_ok-burned.was
+          c.burn.ensures.unstable;
       bound = fits pile.grid (height_of pile) burned c.in_ok-burned.ensures.burned;
       found = subst (IsFound pile.grid (height_of pile) (burns_out burned))
           (sym (take_all (length xs) xs (omega arith)))

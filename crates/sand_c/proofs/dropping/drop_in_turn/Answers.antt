@@ -1,6 +1,6 @@
 use Rattle.std.proofs.Common.{◌∙◌, ap}
 use Rattle.sand_model.specs.Piles.{PileView}
-use Rattle.sand_c.proofs.dropping.drop_into.Goals as goal
+use Rattle.sand_c.proofs.dropping.drop_in_turn.Goals as goal
 
 pub returns-clause-dropped : goal.returns-clause-dropped
 returns-clause-dropped c =

@@ -1,6 +1,6 @@
 use Rattle.std.proofs.Common.{◌∙◌, length}
 use Rattle.sand_c.proofs.SettledAt.{settled_at}
-use Rattle.sand_c.proofs.settling_all.settle_all_into.Goals as goal
+use Rattle.sand_c.proofs.settling_all.settle_all.Goals as goal
 
 pub returns-clause-settled : goal.returns-clause-settled
 returns-clause-settled c =
@@ -10,6 +10,6 @@ returns-clause-settled c =
       c.copy_from_slice-2.ensures.after ∙ c.deref-2.ensures.value,
       c.copy_from_slice-3.ensures.after ∙ c.deref-3.ensures.value,
       c.copy_from_slice-4.ensures.after ∙ c.deref-4.ensures.value,
-    ) (settled_at c.args.width c.args.height c.args.cylinder c.in_ok-shape.shape c.args.heights.now c.args.odometer.now
+    ) (settled_at c.args.sides c.in_ok-shape.shape c.args.heights.now c.args.odometer.now
     (length c.args.lost.now) c.in_ok-all.all suits.grid suits.heights suits.odometer suits.within
     c.in_ok-all.ensures.records j lt)

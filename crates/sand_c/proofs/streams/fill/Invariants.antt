@@ -1,6 +1,6 @@
 use Rattle.std.proofs.Common.{◌≡◌, ◌+◌, ◌<◌, ℕ, length, get_or}
 use Rattle.sand_streams.specs.Streams.{site_at}
-use Rattle.sand_c.proofs.streams.read_into.Given as goal
+use Rattle.sand_c.proofs.streams.fill.Given as goal
 
 abbrev pub invariant-loop-place : goal.invariant-loop-place
 invariant-loop-place l = record {

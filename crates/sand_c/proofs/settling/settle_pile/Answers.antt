@@ -1,4 +1,4 @@
-use Rattle.sand_c.proofs.settling.settle_into.Goals as goal
+use Rattle.sand_c.proofs.settling.settle_pile.Goals as goal
 
 pub returns-clause-settled : goal.returns-clause-settled
 returns-clause-settled c = record {
