@@ -114,7 +114,8 @@ class ByInstall(unittest.TestCase):
                 text = ran("bash", "-euc", script, cwd=prefix, env={"PATH": os.environ["PATH"]})
                 self.assertEqual(text, want + "\n".join([
                     f"{prefix}/lib/python3/site-packages/sandpile/libsandpile.so.1",
-                    "257 wide: the width or the height of a grid is outside 1 to 256", sandpile.__version__, f"sandpile {sandpile.__version__}", "",
+                    "257 wide: the width or the height of a grid is outside 1 to 256",
+                    sandpile.__version__, f"sandpile {sandpile.__version__}", "",
                 ]))
 
     def test_the_lines_to_add_are_quoted(self):

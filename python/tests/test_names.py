@@ -27,7 +27,10 @@ class Names(unittest.TestCase):
     def test_faults_have_the_names_and_sentences_of_the_docs(self):
         rows = {int(number): row for number, *row in re.findall(r"^\| (\d+) \| (\w+) \|.*\| (.*) \|$", FORMATS, re.M)}
         for number, (name, sentence) in _FAULTS.items():
-            self.assertEqual([name, rows[number][1] if number in OF_BOTH else sentence], rows[number])
+            known_name, meaning = rows[number]
+            self.assertEqual(known_name, name)
+            if number not in OF_BOTH:
+                self.assertEqual(meaning, sentence)
 
     def test_faults_have_the_names_and_sentences_of_the_program(self):
         explained = re.findall(r"^fault (\d+) (\w+).*\n((?:  .*\n)+)", program("explain"), re.M)
