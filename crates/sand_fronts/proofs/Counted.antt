@@ -1,37 +1,141 @@
 -- The places of tiles that leave a wave and are counted.
-use Rattle.std.proofs.Common.{ℕ, List, length, get_or, cond, eqb, refl, ◌≡◌, ◌≢◌, ◌+◌, ◌*◌, ◌<◌, ◌≤◌, sym, ◌∙◌, ap, arith, ⊎_elim, inl, inr, ◌-◌, subst, ◌⊎◌}
-use Rattle.std.specs.Prelude.{bit_or, slice_index}
+use Rattle.std.proofs.Common.{ℕ, List, [], ◌∷◌, ◌++◌, replicate, Vec, Global, length, get_or, cond, eqb, refl, ◌≡◌, ◌≢◌, ◌+◌, ◌*◌, ◌<◌, ◌≤◌, sym, ◌∙◌, ap, ap₂, arith, ⊎_elim, inl, inr, ◌-◌, subst, ◌⊎◌}
+use Rattle.std.specs.Prelude.{bit_or, slice_index, vec_capacity}
 use Rattle.std.specs.Vec.{with_item}
 use Rattle.std.proofs.Math.Nat.{mul-le-mul_right}
 use Rattle.std.proofs.Math.ListN.{set}
 use Rattle.std.proofs.lemmas.Bool.{cases_eq, cases_lt, eq-eqb, ne_eqb}
-use Rattle.std.proofs.lemmas.List.{get_or-set_same, get_or-set_other, length-set, get_or_read}
+use Rattle.std.proofs.lemmas.List.{get_or-set_same, get_or-set_other, length-set, get_or_read, get_or_past, get_or_push, length_push, get_or_append_left, get_or-replicate}
 use Rattle.sand_model.specs.Sand.{sum_below, one_at}
 use Rattle.sand_model.proofs.SumsBelow.{sum_below_same, sum_below-add, sum_below-one_at, one_at_same, one_at_other}
 use Rattle.sand_tiles.specs.declared.tile.Tile.{Tile}
-use Rattle.sand_tiles.specs.declared.counting.Count.{Count}
+use Rattle.sand_tiles.specs.declared.counting.Recent.{Recent}
 use Rattle.sand_tiles.specs.Places.{bit, number}
-use Rattle.sand_tiles.specs.Counts.{counted, IsCount, no_tile}
+use Rattle.sand_tiles.specs.Counts.{Count, count_of, counted, times, IsRecent, IsCount, no_recent}
 use Rattle.sand_tiles.proofs.Bits.{bit_le, bit_none, either, both_le}
 use Rattle.sand_fronts.specs.TileLists.{IsClear}
 use Rattle.sand_fronts.specs.Waves.{tile_at}
 use Rattle.sand_fronts.specs.declared.counts.Counts.{Counts}
-use Rattle.sand_fronts.specs.Counting.{count_at, over_wave, with_wave}
-use Rattle.sand_fronts.specs.Boards.{counts_of, marks_of, AreCounted}
+use Rattle.sand_fronts.specs.Counting.{spilled_at, over_wave, with_wave}
+use Rattle.sand_fronts.specs.Boards.{counts_of, marks_of, AreCounted, AddsSet, AreCleared}
 use Rattle.sand_fronts.specs.Marking.{MarksView, in_sets, AreMarked}
-use Rattle.sand_fronts.proofs.Gained.{set_each, tile_set}
+use Rattle.sand_fronts.proofs.Gained.{tile_set}
 use Rattle.sand_fronts.proofs.Sums.{sum_below_none, sum_below_most}
 use Rattle.sand_fronts.proofs.OnTiles.{height_low}
 
-pub count_set_same : (cs : List Count) (k m : ℕ) (d : Count) → k < length cs → m ≡ k → count_at (set cs k d) m ≡ d
-count_set_same cs k m d inside e = ap (count_at (set cs k d)) e ∙ get_or-set_same cs k d no_tile inside
+pub no_list : (m p : ℕ) → spilled_at [] m p ≡ 0
+no_list m p = ap (λ (x : List ℕ). slice_index x p) (get_or_past {X = List ℕ} [] m [] (omega arith))
+    ∙ get_or_past {X = ℕ} [] p 0 (omega arith)
 
-pub count_set_other : (cs : List Count) (k m : ℕ) (d : Count) → (m ≡ k → ⊥) → count_at (set cs k d) m ≡ count_at cs m
-count_set_other cs k m d ne = get_or-set_other cs k m d no_tile ne
+-- a list of zeros for one tile more
+pub one_list : (ss : List (List ℕ)) (m p : ℕ) → p < 64 → spilled_at (ss ++ replicate 64 0 ∷ []) m p ≡ spilled_at ss m p
+one_list ss m p low =
+    let at : (a b : List ℕ) → a ≡ b → slice_index a p ≡ slice_index b p = λ a b e. ap (λ (x : List ℕ). slice_index x p) e in
+    let zero : List ℕ = replicate 64 0 in
+    let past : length ss ≤ m → 0 ≡ spilled_at ss m p =
+    λ l. sym (at _ _ (get_or_past {X = List ℕ} ss m [] l) ∙ get_or_past {X = ℕ} [] p 0 (omega arith)) in
+    ⊎_elim
+    (λ (e : m ≡ length ss). at _ _ (get_or_push ss zero [] m (sym e)) ∙ get_or-replicate {A = ℕ} 64 p 0 0 low ∙ past (omega arith))
+    (λ (ne : m ≡ length ss → ⊥). ⊎_elim
+    (λ (l : m < length ss). at _ _ (get_or_append_left ss (zero ∷ []) [] m l))
+    (λ (l : length ss ≤ m). at _ _ (get_or_past {X = List ℕ} (ss ++ zero ∷ []) m []
+    (let e = length_push ss zero in let d : 0 < m - length ss = omega (arith, ne) in omega arith))
+    ∙ get_or_past {X = ℕ} [] p 0 (omega arith) ∙ past l)
+    (cases_lt m (length ss)))
+    (cases_eq m (length ss))
 
--- a count that is read
-pub count_read : (cs : List Count) (k : ℕ) (x : Count) → k < length cs → x ≡ get_or cs k x → x ≡ count_at cs k
-count_read cs k x inside read = get_or_read cs k x inside read no_tile
+-- the latest topplings of tile k have grown by a set
+pub recent_adds : (c : Counts) (k word : ℕ) (was r : Recent) → k < length c.each.items → was ≡ get_or c.each.items k was
+    → ((p : ℕ) → p < 64 → times r.planes p ≡ times was.planes p + bit word p)
+    → AddsSet k word c (record c { each = with_item c.each k r })
+recent_adds c k word was r inside read grows =
+    let cs = c.each.items in
+    let now = get_or-set_same cs k r no_recent inside in
+    let before = get_or_read cs k was inside read no_recent in
+    let other : (m : ℕ) → m ≢ k → get_or (set cs k r) m no_recent ≡ get_or cs m no_recent =
+    λ m ne. get_or-set_other cs k m r no_recent ne in
+    record {
+      counts_each = length-set {A = Recent} cs k r;
+      room = refl;
+      marks = refl;
+      here = λ p low.
+          let a = ap (λ (x : Recent). times x.planes p) now in
+          let b = ap (λ (x : Recent). times x.planes p) before in
+          let e = grows p low in
+          omega arith;
+      others_sound = λ m ne. subst IsRecent (sym (other m ne));
+      others = λ m p ne low. let e = ap (λ (x : Recent). times x.planes p) (other m ne) in omega arith;
+    }
+
+-- the latest topplings of tile k have gone to its list
+pub spilled_adds : (c : Counts) (ss : Vec (List ℕ) Global) (k : ℕ) (was r : Recent) (s new : List ℕ) → k < length c.each.items
+    → k < length ss.items → vec_capacity ss ≡ vec_capacity c.spilled
+    → ((m p : ℕ) → p < 64 → spilled_at ss.items m p ≡ spilled_at c.spilled.items m p)
+    → was ≡ get_or c.each.items k was → s ≡ get_or ss.items k s
+    → ((p : ℕ) → p < 64 → slice_index new p ≡ counted (count_of was s) p) → r ≡ no_recent
+    → AddsSet k 0 c (record c { each = with_item c.each k r; spilled = with_item ss k new })
+spilled_adds c ss k was r s new inside within room same read read_list moved none =
+    let cs = c.each.items in
+    let now = get_or-set_same cs k r no_recent inside ∙ none in
+    let list = get_or-set_same ss.items k new [] within in
+    let before = get_or_read cs k was inside read no_recent in
+    let old = get_or_read ss.items k s within read_list [] in
+    let other : (m : ℕ) → m ≢ k → get_or (set cs k r) m no_recent ≡ get_or cs m no_recent =
+    λ m ne. get_or-set_other cs k m r no_recent ne in
+    record {
+      counts_each = length-set {A = Recent} cs k r;
+      room = room;
+      marks = refl;
+      here = λ p low.
+          let a = ap (λ (x : Recent). times x.planes p) now in
+          let b = ap (λ (x : Recent). times x.planes p) before in
+          let d = ap (λ (x : List ℕ). slice_index x p) list in
+          let e = ap (λ (x : List ℕ). slice_index x p) old in
+          let f = moved p low in
+          let g = same k p low in
+          let z = bit_none p in
+          omega arith;
+      others_sound = λ m ne. subst IsRecent (sym (other m ne));
+      others = λ m p ne low.
+          let a = ap (λ (x : Recent). times x.planes p) (other m ne) in
+          let b = ap (λ (x : List ℕ). slice_index x p) (get_or-set_other ss.items k m new [] ne) in
+          let e = same m p low in
+          omega arith;
+    }
+
+pub adds_none : {k word : ℕ} {c d e : Counts} → AddsSet k word c d → AddsSet k 0 d e → AddsSet k word c e
+adds_none one none = record {
+  counts_each = none.counts_each ∙ one.counts_each;
+  room = none.room ∙ one.room;
+  marks = none.marks ∙ one.marks;
+  here = λ p low. let a = one.here p low in let b = none.here p low in let z = bit_none p in omega arith;
+  others_sound = λ m ne before. none.others_sound m ne (one.others_sound m ne before);
+  others = λ m p ne low. none.others m p ne low ∙ one.others m p ne low;
+}
+
+pub recent_none : {r : Recent} → r ≡ no_recent → IsRecent r
+recent_none e = subst IsRecent (sym e) (record { bound = omega arith; each = λ p low. let z = bit_none p in omega arith })
+
+-- with no spilled topplings of tile k, and its planes cleared, its counts are 0
+pub cleared_at : (c : Counts) (ss : Vec (List ℕ) Global) (k : ℕ) → k < length c.each.items
+    → vec_capacity ss ≡ vec_capacity c.spilled → ((p : ℕ) → p < 64 → spilled_at ss.items k p ≡ 0)
+    → ((m : ℕ) → m ≢ k → get_or ss.items m [] ≡ get_or c.spilled.items m [])
+    → AreCleared k c (record c { each = with_item c.each k no_recent; spilled = ss })
+cleared_at c ss k inside room none others =
+    let cs = c.each.items in
+    let here = get_or-set_same cs k no_recent no_recent inside in
+    record {
+      counts_each = length-set {A = Recent} cs k no_recent;
+      room = room;
+      marks = refl;
+      sound = recent_none here;
+      none = λ p low.
+          let a = none p low in
+          let b = ap (λ (r : Recent). times r.planes p) here in
+          let z = bit_none p in
+          omega arith;
+      others = λ m ne. ap₂ count_of (get_or-set_other cs k m no_recent no_recent ne) (others m ne);
+    }
 
 -- ---- what is marked
 
@@ -55,26 +159,29 @@ marked_more {c} {d} {e} {x} {y} {z} first second = record {
       omega arith;
 }
 
-pub marked_one : (cs : List Count) (k word : ℕ) (d : Count) (x y : ℕ → ℕ) → k < length cs
-    → ((p : ℕ) → p < 64 → counted d p ≡ counted (count_at cs k) p + bit word p)
-    → ((m : ℕ) → y m ≡ cond (eqb m k) (bit_or (x m) word) (x m))
-    → AreMarked (count_at cs) (count_at (set cs k d)) x y
-marked_one cs k word d x y inside counts marks =
-    let all = set_each no_tile (λ m (z : Count). (p : ℕ) → p < 64 → (counted (count_at cs m) p ≤ counted z p)
-    × (bit (x m) p ≤ bit (y m) p) × (counted (count_at cs m) p < counted z p → bit (y m) p ≡ 1)
-    × (bit (y m) p ≤ bit (x m) p + (counted z p - counted (count_at cs m) p))) cs k d inside
-    (λ p low.
-    let a = counts p low in
-    let b = ap (λ w. bit w p) (marks k ∙ ap (λ b. cond b (bit_or (x k) word) (x k)) (eq-eqb k k refl)) in
-    let c = either (x k) word p in
-    let e = both_le (x k) word p in
-    let e0 = e.0 in let e1 = e.1 in
-    let f = bit_le word p in
-    let g = bit_le (y k) p in
+pub marked_one : {k word : ℕ} {c d : Counts} (x y : ℕ → ℕ) → AddsSet k word c d
+    → ((m : ℕ) → y m ≡ cond (eqb m k) (bit_or (x m) word) (x m)) → AreMarked (counts_of c) (counts_of d) x y
+marked_one {k} {word} {c} {d} x y added marks =
+    let all : (m p : ℕ) → p < 64 → (counted (counts_of c m) p ≤ counted (counts_of d m) p)
+    × (bit (x m) p ≤ bit (y m) p) × (counted (counts_of c m) p < counted (counts_of d m) p → bit (y m) p ≡ 1)
+    × (bit (y m) p ≤ bit (x m) p + (counted (counts_of d m) p - counted (counts_of c m) p)) =
+    λ m p low. ⊎_elim
+    (λ (e : m ≡ k).
+    let a = added.here p low in
+    let before = ap (λ i. counted (counts_of c i) p) e in
+    let after = ap (λ i. counted (counts_of d i) p) e in
+    let b = ap (λ w. bit w p) (marks m ∙ ap (λ b. cond b (bit_or (x m) word) (x m)) (eq-eqb m k e)) in
+    let f = either (x m) word p in
+    let g = both_le (x m) word p in
+    let g0 = g.0 in let g1 = g.1 in
+    let h = bit_le word p in
+    let i = bit_le (y m) p in
     (omega arith, omega arith, λ grown. omega arith, omega arith))
-    (λ m ne p low.
+    (λ (ne : m ≡ k → ⊥).
+    let a = added.others m p ne low in
     let b = ap (λ w. bit w p) (marks m ∙ ap (λ b. cond b (bit_or (x m) word) (x m)) (ne_eqb m k ne)) in
-    (omega arith, omega arith, λ grown. absurd (omega arith), omega arith)) in
+    (omega arith, omega arith, λ grown. absurd (omega arith), omega arith))
+    (cases_eq m k) in
     record {
       never_falls = λ m p low. (all m p low).0;
       kept = λ m p low. (all m p low).1;
@@ -97,6 +204,7 @@ pub counted_more : {ts us vs : List Tile} {c d e : Counts} → AreCounted ts us 
 counted_more first second = record {
   tiles_each = second.tiles_each ∙ first.tiles_each;
   counts_each = second.counts_each ∙ first.counts_each;
+  room = second.room ∙ first.room;
   marks_each = second.marks_each ∙ first.marks_each;
   low = λ m. second.low m ∙ first.low m;
   high = λ m. second.high m ∙ first.high m;
@@ -108,38 +216,32 @@ counted_more first second = record {
 }
 
 -- the set of tile k is counted and marked, and the tile leaves the wave
-pub counted_one : (ts : List Tile) (c : Counts) (k word : ℕ) (t : Tile) (was d : Count) (marks : MarksView)
-    → k < length ts → length c.each.items ≡ length ts → length marks.sets ≡ length c.marks.sets
-    → word ≡ (tile_at ts k).wave → t ≡ record (tile_at ts k) { wave = 0 } → was ≡ counts_of c k → IsCount d
-    → ((p : ℕ) → p < 64 → counted d p ≡ counted was p + bit word p)
-    → ((m : ℕ) → slice_index marks.sets m ≡ cond (eqb m k) (bit_or (marks_of c m) word) (marks_of c m))
-    → AreCounted ts (set ts k t) c (record { each = with_item c.each k d; marks = marks })
-counted_one ts c k word t was d marks inside each marks_each read is read_count sound counts marked =
-    let within : k < length c.each.items = omega arith in
+pub counted_one : (ts : List Tile) (c d : Counts) (k word : ℕ) (t : Tile) (marks : MarksView) → k < length ts
+    → AddsSet k word c d → IsCount (counts_of d k) → length marks.sets ≡ length d.marks.sets
+    → word ≡ (tile_at ts k).wave → t ≡ record (tile_at ts k) { wave = 0 }
+    → ((m : ℕ) → slice_index marks.sets m ≡ cond (eqb m k) (bit_or (marks_of d m) word) (marks_of d m))
+    → AreCounted ts (set ts k t) c (record d { marks = marks })
+counted_one ts c d k word t marks inside added sound marks_each read is marked =
     let clear : IsClear t = λ p l. ap (λ (y : Tile). bit y.wave p) is ∙ bit_none p in
-    let counts' : (p : ℕ) → p < 64 → counted d p ≡ counted (counts_of c k) p + bit (tile_at ts k).wave p =
-    λ p l. counts p l ∙ ap (λ (y : Count). counted y p + bit word p) read_count
-    ∙ ap (λ w. counted (counts_of c k) p + bit w p) read in
     record {
       tiles_each = length-set {A = Tile} ts k t;
-      counts_each = length-set {A = Count} c.each.items k d;
-      marks_each = marks_each;
+      counts_each = added.counts_each;
+      room = added.room;
+      marks_each = marks_each ∙ ap (λ (x : MarksView). length x.sets) added.marks;
       low = tile_set (λ m x. x.low ≡ (tile_at ts m).low) ts k t inside (ap (λ (x : Tile). x.low) is) (λ m ne. refl);
       high = tile_set (λ m x. x.high ≡ (tile_at ts m).high) ts k t inside (ap (λ (x : Tile). x.high) is) (λ m ne. refl);
       due = tile_set (λ m x. x.due ≡ (tile_at ts m).due) ts k t inside (ap (λ (x : Tile). x.due) is) (λ m ne. refl);
-      each = tile_set (λ m x. (p : ℕ) → p < 64 → counted (count_at (set c.each.items k d) m) p + bit x.wave p
+      each = tile_set (λ m x. (p : ℕ) → p < 64 → counted (counts_of d m) p + bit x.wave p
           ≡ with_wave (tile_at ts) (counts_of c) m p) ts k t inside
-          (λ p l.
-          let a = ap (λ (y : Count). counted y p) (count_set_same c.each.items k k d within refl) in
-          let h = counts' p l in
-          let z = clear p l in
-          omega arith)
-          (λ m ne p l. let a = ap (λ (y : Count). counted y p) (count_set_other c.each.items k m d ne) in omega arith);
-      sound = λ before.
-          set_each no_tile (λ m x. IsCount x) c.each.items k d within sound (λ m ne. before m);
+          (λ p l. let a = added.here p l in let e = ap (λ w. bit w p) read in let z = clear p l in omega arith)
+          (λ m ne p l. let a = added.others m p ne l in omega arith);
+      sound = λ before m. ⊎_elim
+          (λ (e : m ≡ k). subst (λ i. IsCount (counts_of d i)) (sym e) sound)
+          (λ (ne : m ≡ k → ⊥). added.others_sound m ne (before m))
+          (cases_eq m k);
       clear = tile_set (λ m x. IsClear (tile_at ts m) → IsClear x) ts k t inside (λ was. clear) (λ m ne was. was);
-      marked = marked_one c.each.items k word d (marks_of c) (slice_index marks.sets) within
-          (λ p l. counts p l ∙ ap (λ (y : Count). counted y p + bit word p) read_count) marked;
+      marked = marked_one (marks_of c) (slice_index marks.sets) added (λ m. marked m
+          ∙ ap (λ (x : MarksView). cond (eqb m k) (bit_or (slice_index x.sets m) word) (slice_index x.sets m)) added.marks);
     }
 
 -- ---- numbers

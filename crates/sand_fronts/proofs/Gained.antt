@@ -8,10 +8,9 @@ use Rattle.sand_tiles.specs.declared.tile.Tile.{Tile}
 use Rattle.sand_tiles.specs.Places.{bit, height, had, Receives}
 use Rattle.sand_tiles.proofs.Moves.{cut}
 use Rattle.sand_fronts.specs.TileLists.{IsClear}
-use Rattle.sand_fronts.specs.Waves.{tile_at, only, Gains, beside_at}
+use Rattle.sand_fronts.specs.Waves.{tile_at, only, Gains}
 use Rattle.sand_fronts.proofs.Waves.{only_same, only_other}
 use Rattle.sand_fronts.proofs.OnTiles.{height_low}
-use Rattle.sand_fronts.specs.declared.sides.Beside.{Beside}
 
 abbrev pub blank : Tile
 blank = record { low = 0; high = 0; due = 0; wave = 0 }
@@ -33,26 +32,25 @@ tile_set_other ts k m t ne = get_or-set_other ts k m t blank ne
 pub tile_read : (ts : List Tile) (k : ℕ) (x : Tile) → k < length ts → x ≡ get_or ts k x → x ≡ tile_at ts k
 tile_read ts k x inside read = get_or_read ts k x inside read blank
 
-pub beside_read : (all : List Beside) (k : ℕ) (x : Beside) → k < length all → x ≡ get_or all k x → x ≡ beside_at all k
-beside_read all k x inside read = get_or_read all k x inside read _
+-- what holds of f at the number where it changes, and at each other one, holds at all
+pub changed_each : {A : Type 0} (P : ℕ → A → Type 0) (f h : ℕ → A) (k : ℕ) → P k (h k)
+    → ((m : ℕ) → (m ≡ k → ⊥) → h m ≡ f m) → ((m : ℕ) → (m ≡ k → ⊥) → P m (f m)) → (m : ℕ) → P m (h m)
+changed_each P f h k here same others m = ⊎_elim
+    (λ (e : m ≡ k). subst (λ i. P i (h i)) (sym e) here)
+    (λ (ne : m ≡ k → ⊥). subst (P m) (sym (same m ne)) (others m ne))
+    (cases_eq m k)
 
--- what holds of the entry that is written, and of each other one, holds of all
+-- the same for a list in which one entry is written
 pub set_each : {A : Type 0} (d : A) (P : ℕ → A → Type 0) (xs : List A) (k : ℕ) (x : A) → k < length xs → P k x
     → ((m : ℕ) → (m ≡ k → ⊥) → P m (get_or xs m d)) → (m : ℕ) → P m (get_or (set xs k x) m d)
-set_each d P xs k x inside here others m = ⊎_elim
-    (λ (e : m ≡ k). subst (λ i. P i (get_or (set xs k x) i d)) (sym e)
-    (subst (P k) (sym (get_or-set_same xs k x d inside)) here))
-    (λ (ne : m ≡ k → ⊥). subst (P m) (sym (get_or-set_other xs k m x d ne)) (others m ne))
-    (cases_eq m k)
+set_each d P xs k x inside here others = changed_each P (λ m. get_or xs m d) (λ m. get_or (set xs k x) m d) k
+    (subst (P k) (sym (get_or-set_same xs k x d inside)) here) (λ m ne. get_or-set_other xs k m x d ne) others
 
--- the same for a function that is changed at one number
 pub cond_each : {A : Type 0} (P : ℕ → A → Type 0) (f : ℕ → A) (k : ℕ) (x : A) → P k x
     → ((m : ℕ) → (m ≡ k → ⊥) → P m (f m)) → (m : ℕ) → P m (cond (eqb m k) x (f m))
-cond_each P f k x here others m = ⊎_elim
-    (λ (e : m ≡ k). subst (λ i. P i (cond (eqb m k) x (f m))) (sym e)
-    (subst (P k) (sym (ap (λ c. cond c x (f m)) (eq-eqb m k e))) here))
-    (λ (ne : m ≡ k → ⊥). subst (P m) (sym (ap (λ c. cond c x (f m)) (ne_eqb m k ne))) (others m ne))
-    (cases_eq m k)
+cond_each P f k x here others = changed_each P f (λ m. cond (eqb m k) x (f m)) k
+    (subst (P k) (sym (ap (λ c. cond c x (f k)) (eq-eqb k k refl))) here)
+    (λ m ne. ap (λ c. cond c x (f m)) (ne_eqb m k ne)) others
 
 -- the same for tiles
 pub tile_set : (P : ℕ → Tile → Type 0) (ts : List Tile) (k : ℕ) (t : Tile) → k < length ts → P k t

@@ -12,9 +12,8 @@ use Rattle.sand_model.proofs.Lists.{all_or_one, at_most_one}
 use Rattle.sand_model.proofs.Bounds.{at_most_sum_below, sites_limit, weight_bound}
 use Rattle.sand_model.proofs.Underway.{underway_start, underway_end}
 use Rattle.sand_tiles.specs.declared.tile.Tile.{Tile}
-use Rattle.sand_tiles.specs.declared.counting.Count.{Count}
 use Rattle.sand_tiles.specs.Places.{bit, number}
-use Rattle.sand_tiles.specs.Counts.{counted}
+use Rattle.sand_tiles.specs.Counts.{Count, counted}
 use Rattle.sand_tiles.proofs.Bits.{bit_le}
 use Rattle.sand_fronts.specs.Tiling.{tiles, tile_of, place_of, on_tiles}
 use Rattle.sand_fronts.specs.TileLists.{IsClear}

@@ -1,5 +1,5 @@
 -- A new pile on tiles.
-use Rattle.std.proofs.Common.{ℕ, List, [], ◌∷◌, length, replicate, Some, count_by, is_none, ◌≡◌, ◌+◌, ◌-◌, ◌*◌, ◌/◌, ◌%◌, ◌<◌, ◌≤◌, refl, sym, ◌∙◌, ap, subst, arith, ⊎_elim}
+use Rattle.std.proofs.Common.{ℕ, List, [], ◌∷◌, length, replicate, get_or, Some, count_by, is_none, ◌≡◌, ◌+◌, ◌-◌, ◌*◌, ◌/◌, ◌%◌, ◌<◌, ◌≤◌, refl, sym, ◌∙◌, ap, subst, arith, ⊎_elim}
 use Rattle.std.specs.Prelude.{slice_index}
 use Rattle.std.proofs.Math.ListN.{get_or-eq_default}
 use Rattle.std.proofs.lemmas.Bool.{cases_lt, lt-ltb}
@@ -9,42 +9,41 @@ use Rattle.std.proofs.lemmas.List.FromFn.{get_or-map-range_with_len, length-map-
 use Rattle.sand_model.specs.Grid.{Grid, sites, places, missing, north, west, east, south}
 use Rattle.sand_model.proofs.Neighbours.{missing_is}
 use Rattle.sand_tiles.specs.declared.tile.Tile.{Tile}
-use Rattle.sand_tiles.specs.declared.counting.Count.{Count}
 use Rattle.sand_tiles.specs.Places.{had}
-use Rattle.sand_tiles.specs.Counts.{counted, IsCount, no_tile}
+use Rattle.sand_tiles.specs.declared.counting.Recent.{Recent}
+use Rattle.sand_tiles.specs.Counts.{Count, count_of, times, counted, IsCount, no_recent}
 use Rattle.sand_tiles.proofs.Bits.{bit_none}
 use Rattle.sand_fronts.specs.declared.sand.Sand.{Sand}
 use Rattle.sand_fronts.specs.declared.counts.Counts.{Counts}
 use Rattle.sand_fronts.specs.Tiling.{tile_of, place_of, row_at, column_at, site_on, on_tiles}
 use Rattle.sand_fronts.specs.Filling.{IsInner}
-use Rattle.sand_fronts.specs.Counting.{count_at}
+use Rattle.sand_fronts.specs.Counting.{spilled_at, count_at}
 use Rattle.sand_fronts.specs.Drops.{heights_on, counted_on, grown_on, AreQuiet}
 use Rattle.sand_fronts.specs.Boards.{tiles_of, counts_of}
 use Rattle.sand_fronts.specs.TiledPiles.{tiled_view, by_site, IsTiledView}
+use Rattle.sand_fronts.proofs.Counted.{no_list}
 use Rattle.sand_fronts.proofs.Filled.{entry_each, inner_site}
 use Rattle.sand_fronts.proofs.OnTiles.{place_below, at_on, on_site, on_below, on_sum}
 
-nothing_sound : IsCount no_tile
-nothing_sound = record { bound = omega arith; each = λ p low. let z = bit_none p in omega arith }
+none_recent : (cs : List Recent) (n m : ℕ) → cs ≡ replicate n no_recent → get_or cs m no_recent ≡ no_recent
+none_recent cs n m all = entry_each no_recent (λ k r. r ≡ no_recent) cs n
+    (ap length all ∙ length-replicate {A = Recent} n no_recent)
+    (λ k less. ap (λ (xs : List Recent). get_or xs k no_recent) all
+    ∙ get_or-replicate {A = Recent} n k no_recent no_recent less)
+    (λ k past. refl) m
 
-nothing_counted : (p : ℕ) → counted no_tile p ≡ 0
-nothing_counted p = let z = bit_none p in let e = get_or-eq_default {A = ℕ} [] 0 {n = p} (omega arith) in omega arith
+pub counts_sound : (cs : List Recent) (ss : List (List ℕ)) (n m : ℕ) → cs ≡ replicate n no_recent
+    → IsCount (count_at cs ss m)
+counts_sound cs ss n m all = subst (λ r. IsCount (count_of r (get_or ss m []))) (sym (none_recent cs n m all))
+    (record { bound = omega arith; each = λ p low. let z = bit_none p in omega arith })
 
-count_is : (P : Count → Type 0) (items : List Count) (n m : ℕ) (x : Count) → items ≡ replicate n x → P x → P no_tile
-    → P (count_at items m)
-count_is P items n m x all is none =
-    entry_each no_tile (λ k c. P c) items n (ap length all ∙ length-replicate {A = Count} n x)
-    (λ k less. subst P (sym (ap (λ (xs : List Count). count_at xs k) all
-    ∙ get_or-replicate {A = Count} n k x no_tile less)) is)
-    (λ k past. none) m
-
-pub counts_sound : (items : List Count) (n m : ℕ) (x : Count) → items ≡ replicate n x → IsCount x
-    → IsCount (count_at items m)
-counts_sound items n m x all sound = count_is IsCount items n m x all sound nothing_sound
-
-pub counts_none : (items : List Count) (n m p : ℕ) (x : Count) → items ≡ replicate n x → counted x p ≡ 0
-    → counted (count_at items m) p ≡ 0
-counts_none items n m p x all none = count_is (λ c. counted c p ≡ 0) items n m x all none (nothing_counted p)
+pub counts_none : (cs : List Recent) (ss : List (List ℕ)) (n m p : ℕ) → cs ≡ replicate n no_recent → ss ≡ []
+    → counted (count_at cs ss m) p ≡ 0
+counts_none cs ss n m p all none =
+    let a = ap (λ (r : Recent). times r.planes p) (none_recent cs n m all) in
+    let b = ap (λ (xs : List (List ℕ)). spilled_at xs m p) none ∙ no_list m p in
+    let z = bit_none p in
+    omega arith
 
 -- tiles where each site has had just its height are at rest
 pub new_quiet : (g : Grid) (h : ℕ → ℕ) (τ : ℕ → Tile)

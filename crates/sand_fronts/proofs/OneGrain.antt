@@ -12,6 +12,7 @@ use Rattle.sand_model.proofs.Underway.{underway_start, underway_end}
 use Rattle.sand_model.proofs.Lists.{at_most_one}
 use Rattle.sand_tiles.specs.declared.tile.Tile.{Tile}
 use Rattle.sand_tiles.specs.Places.{bit, height, Receives}
+use Rattle.sand_tiles.specs.Counts.{Count}
 use Rattle.sand_tiles.proofs.Bits.{bit_le, half, both_le}
 use Rattle.sand_fronts.specs.Tiling.{tile_of, place_of, on_tiles}
 use Rattle.sand_fronts.specs.Waves.{tile_at, AreOpen, AreAllOpen, AreAtRest, heights_before}

@@ -1,18 +1,24 @@
 -- Heights and an odometer by site that follow what topples on tiles.
-use Rattle.std.proofs.Common.{ℕ, List, Option, None, get_or, true, refl, ◌≡◌, ◌≢◌, ◌+◌, ◌*◌, ◌/◌, ◌%◌, ◌<◌, ◌≤◌, sym, ◌∙◌, ap, arith, ⊎_elim}
+use Rattle.std.proofs.Common.{ℕ, List, Option, None, get_or, true, refl, ◌≡◌, ◌≢◌, ◌+◌, ◌*◌, ◌/◌, ◌%◌, ◌<◌, ◌≤◌, sym, ◌∙◌, ap, ap₂, subst, length, [], arith, ⊎_elim}
+use Rattle.std.specs.Vec.{with_item}
+use Rattle.std.proofs.Math.ListN.{set}
 use Rattle.std.proofs.lemmas.Bool.{cases_eq}
+use Rattle.std.proofs.lemmas.List.{get_or-set_same, get_or-set_other, length-set, get_or_read}
 use Rattle.sand_model.specs.Grid.{Grid, sites, places}
 use Rattle.sand_model.specs.Sand.{flow, one_at, value_at}
 use Rattle.sand_model.proofs.Flow.{flow_same, flow-add, flow-scale, four_places}
 use Rattle.sand_model.proofs.SumsBelow.{one_at_same, one_at_other}
-use Rattle.sand_tiles.specs.declared.counting.Count.{Count}
+use Rattle.sand_tiles.specs.declared.counting.Recent.{Recent}
 use Rattle.sand_tiles.specs.Places.{bit}
-use Rattle.sand_tiles.specs.Counts.{counted, times}
-use Rattle.sand_tiles.proofs.Bits.{bit_le}
+use Rattle.sand_tiles.specs.Counts.{Count, count_of, counted, times, IsCount, no_recent}
+use Rattle.sand_tiles.proofs.Bits.{bit_le, bit_none}
 use Rattle.sand_fronts.specs.declared.reach.Spot.{Spot}
+use Rattle.sand_fronts.specs.declared.counts.Counts.{Counts}
+use Rattle.sand_fronts.specs.Boards.{counts_of, AreCleared}
 use Rattle.sand_fronts.specs.Reaching.{corner_of}
 use Rattle.sand_fronts.specs.Tiling.{tile_of, place_of, is_site, site_on}
 use Rattle.sand_fronts.specs.WrittenBack.{risen, AreLow, Follows, CountsTile}
+use Rattle.sand_fronts.proofs.Gained.{changed_each}
 use Rattle.sand_fronts.proofs.Reached.{IsTaken}
 use Rattle.sand_fronts.proofs.OnTiles.{place_below, back_again, there_again}
 use Rattle.sand_fronts.proofs.Sums.{flow_none}
@@ -72,40 +78,10 @@ pub record TileWritten (g : Grid) (k : ℕ) (c : Count) (set rest : ℕ) (u v : 
   pub left : (j : ℕ) → j < sites g → tile_of g j ≡ k → bit rest (place_of g j) ≡ 1 → get_or v j 0 ≡ get_or u j 0
   pub others : (j : ℕ) → j < sites g → tile_of g j ≢ k → get_or v j 0 ≡ get_or u j 0
 
--- the spilled counts of c are still in d at the places of the rest, and 0 at the others
-pub record AreLeft (c d : Count) (rest : ℕ) : Type 0 where
-  pub planes : d.planes ≡ c.planes
-  pub left : (p : ℕ) → p < 64 → bit rest p ≡ 1 → get_or d.spilled p 0 ≡ get_or c.spilled p 0
-  pub taken : (p : ℕ) → p < 64 → bit rest p ≡ 0 → get_or d.spilled p 0 ≡ 0
-
-pub all_left : (c : Count) (set' : ℕ) → ((p : ℕ) → p < 64 → bit set' p ≡ 0 → counted c p ≡ 0) → AreLeft c c set'
-all_left c set' none = record {
-  planes = refl;
-  left = λ p low is. refl;
-  taken = λ p low out. let z = none p low out in omega arith;
-}
-
-pub left_counted : {c d : Count} {rest : ℕ} (p : ℕ) → AreLeft c d rest → p < 64 → bit rest p ≡ 1
-    → counted d p ≡ counted c p
-left_counted p before low is =
-    let spilled = before.left p low is in let planes = ap (λ x. times x p) before.planes in omega arith
-
-pub one_taken : {c d e : Count} {rest next place : ℕ} → AreLeft c d rest → IsTaken rest next place → e.planes ≡ d.planes
-    → get_or e.spilled place 0 ≡ 0 → ((p : ℕ) → p ≢ place → get_or e.spilled p 0 ≡ get_or d.spilled p 0) → AreLeft c e next
-one_taken {rest = rest} {place = place} before gone planes here others = record {
-  planes = planes ∙ before.planes;
-  left = λ p low is.
-      let each = gone.each p low in
-      let few = bit_le rest p in
-      others p (λ e. let one = ap (one_at place) e ∙ one_at_same place in omega arith) ∙ before.left p low (omega arith);
-  taken = λ p low out. ⊎_elim
-      (λ (e : p ≡ place). rw e here)
-      (λ (ne : p ≡ place → ⊥).
-      let each = gone.each p low in
-      let other = one_at_other place p (λ e. ne (sym e)) in
-      others p ne ∙ before.taken p low (omega arith))
-      (cases_eq p place);
-}
+-- what holds of the counts that are cleared, and of all others before, holds of all
+pub cleared_each : (P : ℕ → Count → Type 0) {k : ℕ} {c d : Counts} → AreCleared k c d → P k (counts_of d k)
+    → ((m : ℕ) → (m ≡ k → ⊥) → P m (counts_of c m)) → (m : ℕ) → P m (counts_of d m)
+cleared_each P {k} {c} {d} cleared here = changed_each P (counts_of c) (counts_of d) k here cleared.others
 
 pub tile_begins : (g : Grid) (k : ℕ) (c : Count) (set : ℕ) (u : List ℕ)
     → ((p : ℕ) → p < 64 → bit set p ≡ 0 → counted c p ≡ 0) → TileWritten g k c set set u u

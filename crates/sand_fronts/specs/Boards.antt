@@ -1,11 +1,11 @@
 -- The parts of a pile on tiles: the board, the sand on it, and the counts of topplings.
-use Rattle.std.specs.Prelude.{ℕ, List, ◌≡◌, ◌+◌, ◌<◌, ◌≤◌, length, slice_index}
+use Rattle.std.specs.Prelude.{ℕ, List, ◌≡◌, ◌≢◌, ◌+◌, ◌<◌, ◌≤◌, length, slice_index, vec_capacity}
 use Rattle.sand_model.specs.Grid.{Grid, sites}
 use Rattle.sand_model.specs.Sand.{IsSettled}
 use Rattle.sand_model.specs.IndexLists.{Joins}
 use Rattle.sand_tiles.specs.declared.tile.Tile.{Tile}
-use Rattle.sand_tiles.specs.declared.counting.Count.{Count}
-use Rattle.sand_tiles.specs.Counts.{counted, IsCount}
+use Rattle.sand_tiles.specs.Places.{bit}
+use Rattle.sand_tiles.specs.Counts.{Count, counted, IsCount}
 use Rattle.sand_fronts.specs.declared.board.Board.{Board}
 use Rattle.sand_fronts.specs.declared.sand.Sand.{Sand}
 use Rattle.sand_fronts.specs.declared.counts.Counts.{Counts}
@@ -24,7 +24,7 @@ abbrev pub tiles_of : Sand → ℕ → Tile
 tiles_of s = tile_at s.tiles.items
 
 abbrev pub counts_of : Counts → ℕ → Count
-counts_of c = count_at c.each.items
+counts_of c = count_at c.each.items c.spilled.items
 
 abbrev pub marks_of : Counts → ℕ → ℕ
 marks_of c = slice_index c.marks.sets
@@ -46,6 +46,7 @@ pub record IsSand (g : Grid) (s : Sand) : Type 0 where
 
 pub record AreCounts (g : Grid) (c : Counts) : Type 0 where
   pub len : length c.each.items ≡ tiles g
+  pub room : vec_capacity c.spilled ≡ tiles g
   pub marks_each : length c.marks.sets ≡ tiles g
   pub sound : (m : ℕ) → IsCount (counts_of c m)
 
@@ -59,6 +60,7 @@ pub record Gets (free : ℕ → ℕ) (most : ℕ) (gain : ℕ → ℕ → ℕ) (
 pub record AreCounted (ts us : List Tile) (c d : Counts) : Type 0 where
   pub tiles_each : length us ≡ length ts
   pub counts_each : length d.each.items ≡ length c.each.items
+  pub room : vec_capacity d.spilled ≡ vec_capacity c.spilled
   pub marks_each : length d.marks.sets ≡ length c.marks.sets
   pub low : (m : ℕ) → (tile_at us m).low ≡ (tile_at ts m).low
   pub high : (m : ℕ) → (tile_at us m).high ≡ (tile_at ts m).high
@@ -68,6 +70,24 @@ pub record AreCounted (ts us : List Tile) (c d : Counts) : Type 0 where
   pub sound : ((m : ℕ) → IsCount (counts_of c m)) → (m : ℕ) → IsCount (counts_of d m)
   pub clear : (m : ℕ) → IsClear (tile_at ts m) → IsClear (tile_at us m)
   pub marked : AreMarked (counts_of c) (counts_of d) (marks_of c) (marks_of d)
+
+-- a toppling of each place of a set in tile k is counted
+pub record AddsSet (k set : ℕ) (c d : Counts) : Type 0 where
+  pub counts_each : length d.each.items ≡ length c.each.items
+  pub room : vec_capacity d.spilled ≡ vec_capacity c.spilled
+  pub marks : d.marks ≡ c.marks
+  pub here : (p : ℕ) → p < 64 → counted (counts_of d k) p ≡ counted (counts_of c k) p + bit set p
+  pub others_sound : (m : ℕ) → m ≢ k → IsCount (counts_of c m) → IsCount (counts_of d m)
+  pub others : (m p : ℕ) → m ≢ k → p < 64 → counted (counts_of d m) p ≡ counted (counts_of c m) p
+
+-- the counts of tile k become 0
+pub record AreCleared (k : ℕ) (c d : Counts) : Type 0 where
+  pub counts_each : length d.each.items ≡ length c.each.items
+  pub room : vec_capacity d.spilled ≡ vec_capacity c.spilled
+  pub marks : d.marks ≡ c.marks
+  pub sound : IsCount (counts_of d k)
+  pub none : (p : ℕ) → p < 64 → counted (counts_of d k) p ≡ 0
+  pub others : (m : ℕ) → m ≢ k → counts_of d m ≡ counts_of c m
 
 -- nothing is counted at a place that is no site
 abbrev pub CountsSites : Grid → Counts → Type 0

@@ -2,9 +2,8 @@
 use Rattle.std.specs.Prelude.{ℕ, ◌≡◌, ◌-◌, ◌<◌}
 use Rattle.sand_model.specs.Grid.{Grid, missing}
 use Rattle.sand_tiles.specs.declared.tile.Tile.{Tile}
-use Rattle.sand_tiles.specs.declared.counting.Count.{Count}
 use Rattle.sand_tiles.specs.Places.{bit, height, number}
-use Rattle.sand_tiles.specs.Counts.{counted}
+use Rattle.sand_tiles.specs.Counts.{Count, counted}
 use Rattle.sand_fronts.specs.Tiling.{tile_of, place_of, on_tiles}
 use Rattle.sand_fronts.specs.TileLists.{IsClear}
 

@@ -3,9 +3,8 @@ use Rattle.std.specs.Prelude.{ℕ, Bool, List, true, ◌≡◌, ◌+◌, ◌-◌
 use Rattle.sand_model.specs.Grid.{Grid}
 use Rattle.sand_model.specs.Sand.{sum_below}
 use Rattle.sand_model.specs.Lists.{one_if}
-use Rattle.sand_tiles.specs.declared.counting.Count.{Count}
 use Rattle.sand_tiles.specs.Places.{bit}
-use Rattle.sand_tiles.specs.Counts.{counted}
+use Rattle.sand_tiles.specs.Counts.{Count, counted}
 use Rattle.sand_fronts.specs.Tiling.{is_site, on_tiles}
 
 -- the set of each tile, and the tiles whose sets are not empty

@@ -1,9 +1,8 @@
 -- Heights and an odometer by site that follow what topples on tiles.
-use Rattle.std.specs.Prelude.{ℕ, List, ◌≡◌, ◌≢◌, ◌+◌, ◌-◌, ◌%◌, ◌<◌, ◌≤◌, length, slice_index}
+use Rattle.std.specs.Prelude.{ℕ, List, ◌≡◌, ◌≢◌, ◌+◌, ◌-◌, ◌%◌, ◌<◌, ◌≤◌, length, slice_index, vec_capacity}
 use Rattle.sand_model.specs.Grid.{Grid, sites}
 use Rattle.sand_model.specs.Sand.{flow}
-use Rattle.sand_tiles.specs.declared.counting.Count.{Count}
-use Rattle.sand_tiles.specs.Counts.{counted, IsCount}
+use Rattle.sand_tiles.specs.Counts.{Count, counted, IsCount}
 use Rattle.sand_fronts.specs.declared.counts.Counts.{Counts}
 use Rattle.sand_fronts.specs.Tiling.{tile_of, place_of}
 use Rattle.sand_fronts.specs.Drops.{counted_on}
@@ -32,6 +31,7 @@ pub record CountsTile (g : Grid) (k : ℕ) (c : Count) (u v : List ℕ) : Type 0
 -- all counts are added to an odometer, and are 0 then
 pub record IsWrittenBack (g : Grid) (c d : Counts) (u v : List ℕ) : Type 0 where
   pub counts_each : length d.each.items ≡ length c.each.items
+  pub room : vec_capacity d.spilled ≡ vec_capacity c.spilled
   pub marks : d.marks ≡ c.marks
   pub sound : (m : ℕ) → IsCount (counts_of d m)
   pub none : (m p : ℕ) → p < 64 → counted (counts_of d m) p ≡ 0

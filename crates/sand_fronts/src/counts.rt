@@ -6,18 +6,19 @@
 //!
 //! How many grains a site loses when it topples, 0 to 4, is also kept on tiles: in `outside`, in place of heights.
 
-ghost use Rattle.std.specs.Prelude.{◌≡◌, ◌≢◌, ℕ, ◌+◌, ◌^◌, ◌<◌, ◌≤◌, length, slice_index, IfOk};
+ghost use Rattle.std.specs.Prelude.{◌≡◌, ◌≢◌, ℕ, ◌+◌, ◌^◌, ◌<◌, ◌≤◌, length, vec_capacity, slice_index, IfOk};
 ghost use Rattle.sand_tiles.specs.Counts.{counted, IsCount};
 ghost use Rattle.sand_fronts.specs.Tiling.{tiles};
 ghost use Rattle.sand_fronts.specs.TileLists.{AreListed, IsClear};
 ghost use Rattle.sand_fronts.specs.Waves.{tile_at};
-ghost use Rattle.sand_fronts.specs.Counting.{count_at, in_wave, over_wave, with_wave};
-ghost use Rattle.sand_fronts.specs.Boards.{tiles_of, counts_of, marks_of, IsBoard, IsSand, AreCounts, AreCounted};
+ghost use Rattle.sand_fronts.specs.Counting.{spilled_at, in_wave, over_wave, with_wave};
+ghost use Rattle.sand_fronts.specs.Boards.{tiles_of, counts_of, marks_of, IsBoard, IsSand, AreCounts, AreCounted, AreCleared, AddsSet};
 
 use crate::board::Board;
 use crate::marks::Marks;
 use crate::sand::Sand;
-use sand_tiles::{Count, Tile, count_set, no_count, size, sum_over};
+use core::mem::replace_with;
+use sand_tiles::{NO_RECENT, Recent, Tile, count_set, size, spill, sum_over, times_at};
 use std::alloc::{AllocError, Global};
 
 /// The number of topplings, and of grains that fell into the sink.
@@ -32,19 +33,29 @@ pub(crate) const NOTHING: Total = Total { size: 0, lost: 0 };
 /// How often each place of each tile has toppled, and which places have in this drop.
 #[derive(Drop)]
 pub(crate) struct Counts {
-    pub(crate) each: Vec<Count>,
+    /// The latest topplings of each tile.
+    pub(crate) each: Vec<Recent>,
+    /// All earlier ones, of the tiles up to the last that was spilled. There is room for all tiles.
+    pub(crate) spilled: Vec<[u64; 64]>,
     /// None between two drops.
     pub(crate) marks: Marks,
 }
 
-fn no_counts(alloc: Global, n: usize) -> Result<Vec<Count>, AllocError>
-    ensures len { IfOk result (λ counts. length counts.items ≡ n) }
-    ensures sound { IfOk result (λ counts. (m : ℕ) → IsCount (count_at counts.items m)) }
-    ensures none { IfOk result (λ counts. (m p : ℕ) → p < 64 → counted (count_at counts.items m) p ≡ 0) }
+// Adds the lists that are missing up to that of a tile. They come and go by value, since a reference to them would have
+// the compiler keep the whole pile in memory, and copy it wherever it is moved.
+#[cold]
+#[inline(never)]
+fn with_lists(spilled: Vec<[u64; 64]>, k: usize) -> (Vec<[u64; 64]>, ())
+    requires { k < vec_capacity spilled }
+    ensures len { k < length result.0.items }
+    ensures room { vec_capacity result.0 ≡ vec_capacity spilled }
+    ensures same { (m p : ℕ) → p < 64 → spilled_at result.0.items m p ≡ spilled_at spilled.items m p }
 {
-    let nothing = no_count();
-    let counts = vec![in alloc; nothing; n]?;
-    Ok(counts)
+    let mut spilled = spilled;
+    for _ in spilled.len()..k + 1 {
+        spilled.push_reserved([0; 64]);
+    }
+    (spilled, ())
 }
 
 impl Counts {
@@ -52,13 +63,76 @@ impl Counts {
     pub(crate) fn new(alloc: Global, n: usize) -> Result<Counts, AllocError>
         requires { n ≤ 65536 }
         ensures len { IfOk result (λ c. (length c.each.items ≡ n) × (length c.marks.sets ≡ n)) }
+        ensures room { IfOk result (λ c. vec_capacity c.spilled ≡ n) }
         ensures sound { IfOk result (λ c. (m : ℕ) → IsCount (counts_of c m)) }
         ensures none { IfOk result (λ c. (m p : ℕ) → p < 64 → counted (counts_of c m) p ≡ 0) }
         ensures unmarked { IfOk result (λ c. (m : ℕ) → marks_of c m ≡ 0) }
     {
-        let each = no_counts(alloc, n)?;
+        let each = vec![in alloc; NO_RECENT; n]?;
+        let spilled = Vec::with_capacity(alloc, n)?;
         let marks = Marks::new(alloc, n)?;
-        Ok(Counts { each, marks })
+        Ok(Counts {
+            each,
+            spilled,
+            marks,
+        })
+    }
+
+    /// How often a place of a tile has toppled.
+    #[inline(always)]
+    pub(crate) fn times(&self, k: usize, place: usize) -> u64
+        requires tile { k < length self.now.each.items }
+        requires place { place < 64 }
+        requires bound { counted (counts_of self.now k) place < 2 ^ 63 }
+        ensures { result ≡ counted (counts_of self.now k) place }
+    {
+        let latest = times_at(&self.each[k], place);
+        if k < self.spilled.len() {
+            self.spilled[k][place] + latest
+        } else {
+            latest
+        }
+    }
+
+    /// Sets the counts of a tile back to 0.
+    #[inline(always)]
+    pub(crate) fn clear(&mut self, k: usize)
+        requires { k < length self.old.each.items }
+        ensures { AreCleared k self.old self.new }
+    {
+        self.each[k] = NO_RECENT;
+        if k < self.spilled.len() {
+            self.spilled[k] = [0; 64];
+        }
+    }
+
+    // Moves the latest topplings of a tile to its list.
+    #[inline(always)]
+    fn spill(&mut self, k: usize)
+        requires tile { k < length self.old.each.items }
+        requires room { k < vec_capacity self.old.spilled }
+        requires bound { (p : ℕ) → p < 64 → counted (counts_of self.old k) p < 2 ^ 63 }
+        ensures sound { IsCount (counts_of self.new k) }
+        ensures added { AddsSet k 0 self.old self.new }
+    {
+        replace_with(&mut self.spilled, k, with_lists);
+        spill(&mut self.each[k], &mut self.spilled[k]);
+    }
+
+    // Counts one toppling of each place of a set in a tile.
+    #[inline(always)]
+    fn add(&mut self, k: usize, set: u64)
+        requires tile { k < length self.old.each.items }
+        requires room { k < vec_capacity self.old.spilled }
+        requires sound { IsCount (counts_of self.old k) }
+        requires bound { (p : ℕ) → p < 64 → counted (counts_of self.old k) p < 2 ^ 62 }
+        ensures sound { IsCount (counts_of self.new k) }
+        ensures added { AddsSet k set self.old self.new }
+    {
+        let is_full = count_set(&mut self.each[k], set);
+        if is_full {
+            self.spill(k);
+        }
     }
 
     // Counts and marks the places of a tile that have toppled, takes them out of the wave, and returns them.
@@ -66,6 +140,7 @@ impl Counts {
     fn take(&mut self, tiles: &mut Vec<Tile>, k: usize) -> u64
         requires tile { k < length tiles.old.items }
         requires len { (length self.old.each.items ≡ length tiles.old.items)
+            × (vec_capacity self.old.spilled ≡ length tiles.old.items)
             × (length self.old.marks.sets ≡ length tiles.old.items) }
         requires fits { length tiles.old.items ≤ 65536 }
         requires sound { IsCount (counts_of self.old k) }
@@ -77,7 +152,7 @@ impl Counts {
     {
         let set = tiles[k].wave;
         tiles[k].wave = 0;
-        count_set(&mut self.each[k], set);
+        self.add(k, set);
         self.marks.mark(k, set);
         set
     }

@@ -29,7 +29,7 @@ use crate::sand::Sand;
 use crate::tiling::{find, find_at, tiles, tiles_with};
 use crate::written_back::write_back;
 use sand_model::{IndexList, Shape};
-use sand_tiles::{height_at, receive, set_of, times_at};
+use sand_tiles::{height_at, receive, set_of};
 use std::alloc::{AllocError, Global};
 use std::marker::Model;
 
@@ -229,7 +229,7 @@ impl TiledPile {
         ensures { result ≡ slice_index self.now.times (row * self.now.grid.width + column) }
     {
         let (tile, place) = find_at(self.board.shape, column, row);
-        times_at(&self.counts.each[tile], place)
+        self.counts.times(tile, place)
     }
 
     /// How often a site has toppled.

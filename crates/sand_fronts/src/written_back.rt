@@ -8,7 +8,7 @@ ghost use Rattle.std.specs.Prelude.{◌≡◌, ℕ, ◌+◌, ◌*◌, ◌/◌, �
 ghost use Rattle.sand_model.specs.Grid.{sites};
 ghost use Rattle.sand_model.specs.Sand.{one_at, value_at};
 ghost use Rattle.sand_tiles.specs.Places.{bit};
-ghost use Rattle.sand_tiles.specs.Counts.{counted, IsCount};
+ghost use Rattle.sand_tiles.specs.Counts.{counted};
 ghost use Rattle.sand_fronts.specs.Tiling.{tile_of, is_site, tiles};
 ghost use Rattle.sand_fronts.specs.Marking.{AreSites};
 ghost use Rattle.sand_fronts.specs.Boards.{counts_of, marks_of, AreCounts};
@@ -18,7 +18,7 @@ use crate::counts::Counts;
 use crate::extent::corner;
 use crate::reach::Spot;
 use sand_model::Shape;
-use sand_tiles::{Count, no_count, set_of, times_at};
+use sand_tiles::set_of;
 
 // Gives grains to a neighbour if there is one, modulo 4.
 #[inline(always)]
@@ -61,25 +61,24 @@ fn write_site(shape: Shape, heights: &mut [u64], odometer: &mut [u64], site: usi
     give(heights, south, times);
 }
 
-// Adds the topplings of the places of a tile, and sets its count back to 0. A whole new count would be 600 bytes to write.
+// Adds the topplings of the places of a tile.
 fn write_tile(
     shape: Shape,
     k: usize,
     set: u64,
-    count: &mut Count,
+    counts: &Counts,
     heights: &mut [u64],
     odometer: &mut [u64],
 )
     requires tile { k < 2 ^ 20 }
+    requires listed { k < length counts.now.each.items }
     requires len { (length heights.old ≡ sites shape) × (length odometer.old ≡ sites shape) }
-    requires bound { ((p : ℕ) → p < 64 → counted count.old p < 2 ^ 59)
+    requires bound { ((p : ℕ) → p < 64 → counted (counts_of counts.now k) p < 2 ^ 59)
         × ((j : ℕ) → j < sites shape → tile_of shape j ≡ k → slice_index odometer.old j < 2 ^ 60) }
     requires at_sites { (p : ℕ) → p < 64 → bit set p ≡ 1 → is_site shape k p ≡ true }
-    requires no_other { (p : ℕ) → p < 64 → bit set p ≡ 0 → counted count.old p ≡ 0 }
+    requires no_other { (p : ℕ) → p < 64 → bit set p ≡ 0 → counted (counts_of counts.now k) p ≡ 0 }
     requires low { AreLow heights.old }
-    ensures sound { IsCount count.new }
-    ensures none { (p : ℕ) → p < 64 → counted count.new p ≡ 0 }
-    ensures counted { CountsTile shape k count.old odometer.old odometer.new }
+    ensures counted { CountsTile shape k (counts_of counts.now k) odometer.old odometer.new }
     ensures follows { Follows shape heights.old heights.new odometer.old odometer.new }
 {
     let corner = corner(shape, k);
@@ -88,12 +87,8 @@ fn write_tile(
         let place = rest.trailing_zeros() as usize;
         rest ^= set_of(place);
         let site = site_in(shape, corner, place);
-        write_site(shape, heights, odometer, site, times_at(count, place));
-        count.spilled[place] = 0;
+        write_site(shape, heights, odometer, site, counts.times(k, place));
     }
-    let nothing = no_count();
-    count.planes = nothing.planes;
-    count.sets = nothing.sets;
 }
 
 /// Adds the topplings counted in the marked tiles to the odometer, gives their grains to the neighbours, and sets the counts
@@ -118,6 +113,7 @@ pub(crate) fn write_back(
     for position in 0..counts.marks.len() {
         let k = counts.marks.tile(position);
         let set = counts.marks.set(k);
-        write_tile(shape, k, set, &mut counts.each[k], heights, odometer);
+        write_tile(shape, k, set, counts, heights, odometer);
+        counts.clear(k);
     }
 }

@@ -1,7 +1,7 @@
 -- How often each place of a tile has toppled.
-use Rattle.std.specs.Prelude.{ℕ, [], ◌+◌, ◌*◌, ◌<◌, ◌≤◌, slice_index}
+use Rattle.std.specs.Prelude.{ℕ, List, [], ◌+◌, ◌*◌, ◌<◌, ◌≤◌, slice_index}
 use Rattle.sand_tiles.specs.declared.counting.Planes.{Planes}
-use Rattle.sand_tiles.specs.declared.counting.Count.{Count}
+use Rattle.sand_tiles.specs.declared.counting.Recent.{Recent}
 use Rattle.sand_tiles.specs.Places.{bit}
 
 -- the number at a place of ten planes
@@ -10,17 +10,28 @@ times c p = bit c.ones p + 2 * bit c.twos p + 4 * bit c.fours p + 8 * bit c.eigh
     + 32 * bit c.thirty_twos p + 64 * bit c.sixty_fours p + 128 * bit c.next p
     + 256 * bit c.upper p + 512 * bit c.tops p
 
+-- the topplings of a tile: the latest, and all earlier ones
+pub record Count : Type 0 where
+  pub recent : Recent
+  pub spilled : List ℕ
+
+abbrev pub count_of : Recent → List ℕ → Count
+count_of r s = record { recent = r; spilled = s }
+
 abbrev pub counted : Count → ℕ → ℕ
-counted c p = slice_index c.spilled p + times c.planes p
+counted c p = slice_index c.spilled p + times c.recent.planes p
 
 -- the planes have room for one more set
-pub record IsCount (c : Count) : Type 0 where
-  pub bound : c.sets ≤ 1022
-  pub each : (p : ℕ) → p < 64 → times c.planes p ≤ c.sets
+pub record IsRecent (r : Recent) : Type 0 where
+  pub bound : r.sets ≤ 1022
+  pub each : (p : ℕ) → p < 64 → times r.planes p ≤ r.sets
 
--- the count of a tile that is not in a list
-abbrev pub no_tile : Count
-no_tile = record {
+abbrev pub IsCount : Count → Type 0
+IsCount c = IsRecent c.recent
+
+-- the latest topplings of a tile that is not in a list
+abbrev pub no_recent : Recent
+no_recent = record {
   planes = record {
     ones = 0;
     twos = 0;
@@ -34,5 +45,4 @@ no_tile = record {
     tops = 0;
   };
   sets = 0;
-  spilled = [];
 }

@@ -4,12 +4,12 @@
 //! (`sum_over`). How often each of 64 places has toppled is kept in ten bit planes, one for each power of 2 below
 //! 1024. To count one toppling at each place of a set, half adders add a one-bit number at each place. After 1023 sets
 //! the planes are spilled, before a carry can leave the last one: their counts are added to a list of 64 numbers, and
-//! they are cleared.
+//! they are cleared. The list is not beside the planes, so that the planes of many tiles stay in the nearest cache.
 
-ghost use Rattle.std.specs.Prelude.{◌≡◌, ℕ, ◌+◌, ◌*◌, ◌^◌, ◌<◌, ◌≤◌};
+ghost use Rattle.std.specs.Prelude.{◌≡◌, ℕ, ◌+◌, ◌*◌, ◌^◌, ◌<◌, ◌≤◌, slice_index, false};
 ghost use Rattle.sand_model.specs.Sand.{sum_below};
 ghost use Rattle.sand_tiles.specs.Places.{bit, number};
-ghost use Rattle.sand_tiles.specs.Counts.{times, counted, IsCount};
+ghost use Rattle.sand_tiles.specs.Counts.{times, count_of, counted, IsRecent, no_recent};
 
 use crate::tile::Tile;
 
@@ -66,16 +66,20 @@ const EMPTY: Planes = Planes {
     tops: 0,
 };
 
-/// How often each place of a tile has toppled.
+/// The latest topplings of each place of a tile. All earlier ones are in a list of 64 numbers.
 #[derive(Clone, Copy)]
-pub struct Count {
+pub struct Recent {
     /// The topplings since the last spill.
     pub planes: Planes,
     /// The number of sets counted in the planes.
     pub sets: u64,
-    /// All earlier topplings.
-    pub spilled: [u64; 64],
 }
+
+/// No topplings since the last spill.
+pub const NO_RECENT: Recent = Recent {
+    planes: EMPTY,
+    sets: 0,
+};
 
 #[inline(always)]
 fn add_to(planes: &mut Planes, set: u64)
@@ -103,11 +107,13 @@ fn add_to(planes: &mut Planes, set: u64)
     planes.tops ^= top;
 }
 
+/// How often a place has toppled since the last spill.
 #[inline(always)]
-fn number_at(planes: &Planes, place: usize) -> u64
+pub fn times_at(recent: &Recent, place: usize) -> u64
     requires { place < 64 }
-    ensures { result ≡ times planes.now place }
+    ensures { result ≡ times recent.now.planes place }
 {
+    let planes = &recent.planes;
     (planes.ones >> place & 1)
         + 2 * (planes.twos >> place & 1)
         + 4 * (planes.fours >> place & 1)
@@ -120,53 +126,28 @@ fn number_at(planes: &Planes, place: usize) -> u64
         + 512 * (planes.tops >> place & 1)
 }
 
-// Moves the counts of the planes to the list. It is not inlined, since it would take registers from the hot path.
+/// Moves the counts of the planes to a list. It is not inlined, since it would take registers from the hot path.
 #[cold]
 #[inline(never)]
-fn spill(count: &mut Count)
-    requires bound { (p : ℕ) → p < 64 → counted count.old p < 2 ^ 63 }
-    ensures kept { (p : ℕ) → p < 64 → counted count.new p ≡ counted count.old p }
-    ensures empty { (count.new.sets ≡ 0) × ((p : ℕ) → times count.new.planes p ≡ 0) }
+pub fn spill(recent: &mut Recent, spilled: &mut [u64; 64])
+    requires bound { (p : ℕ) → p < 64 → counted (count_of recent.old spilled.old) p < 2 ^ 63 }
+    ensures kept { (p : ℕ) → p < 64 → slice_index spilled.new p ≡ counted (count_of recent.old spilled.old) p }
+    ensures empty { recent.new ≡ no_recent }
 {
     for place in 0..64usize {
-        count.spilled[place] += number_at(&count.planes, place);
+        spilled[place] += times_at(recent, place);
     }
-    count.planes = EMPTY;
-    count.sets = 0;
+    *recent = NO_RECENT;
 }
 
-/// A count of no topplings.
-pub fn no_count() -> Count
-    ensures sound { IsCount result }
-    ensures none { (p : ℕ) → p < 64 → counted result p ≡ 0 }
-{
-    Count {
-        planes: EMPTY,
-        sets: 0,
-        spilled: [0; 64],
-    }
-}
-
-/// Counts one toppling of each place of a set.
+/// Counts one toppling of each place of a set. Returns whether the planes are full, and must be spilled.
 #[inline(always)]
-pub fn count_set(count: &mut Count, set: u64)
-    requires sound { IsCount count.old }
-    requires bound { (p : ℕ) → p < 64 → counted count.old p < 2 ^ 62 }
-    ensures sound { IsCount count.new }
-    ensures each { (p : ℕ) → p < 64 → counted count.new p ≡ counted count.old p + bit set p }
+pub fn count_set(recent: &mut Recent, set: u64) -> bool
+    requires sound { IsRecent recent.old }
+    ensures each { (p : ℕ) → p < 64 → times recent.new.planes p ≡ times recent.old.planes p + bit set p }
+    ensures room { result ≡ false → IsRecent recent.new }
 {
-    add_to(&mut count.planes, set);
-    count.sets += 1;
-    if count.sets == SPILL {
-        spill(count);
-    }
-}
-
-/// How often a place has toppled.
-pub fn times_at(count: &Count, place: usize) -> u64
-    requires place { place < 64 }
-    requires bound { counted count.now place < 2 ^ 63 }
-    ensures { result ≡ counted count.now place }
-{
-    count.spilled[place] + number_at(&count.planes, place)
+    add_to(&mut recent.planes, set);
+    recent.sets += 1;
+    recent.sets == SPILL
 }

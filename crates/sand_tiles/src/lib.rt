@@ -9,6 +9,6 @@ mod counting;
 mod tile;
 mod visiting;
 
-pub use counting::{Count, Planes, count_set, no_count, size, sum_over, times_at};
+pub use counting::{NO_RECENT, Planes, Recent, count_set, size, spill, sum_over, times_at};
 pub use tile::{BARE, Tile, height_at, receive, set_of};
 pub use visiting::{visit, visit_pair};

@@ -137,6 +137,7 @@ waves-preserved c =
       };
       counts = record {
         len = counted.counts_each ∙ c.waves.invariant.counts.len;
+        room = counted.room ∙ c.waves.invariant.counts.room;
         marks_each = counted.marks_each ∙ c.waves.invariant.counts.marks_each;
         sound = counted.sound c.waves.invariant.counts.sound;
       };

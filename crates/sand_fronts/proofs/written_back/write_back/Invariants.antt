@@ -1,4 +1,4 @@
-use Rattle.std.proofs.Common.{ℕ, ◌≡◌, ◌+◌, ◌<◌, ◌≤◌, length}
+use Rattle.std.proofs.Common.{ℕ, ◌≡◌, ◌+◌, ◌<◌, ◌≤◌, length, vec_capacity}
 use Rattle.std.specs.Prelude.{slice_index}
 use Rattle.sand_model.specs.Grid.{sites}
 use Rattle.sand_tiles.specs.Counts.{counted, IsCount}
@@ -11,6 +11,7 @@ use Rattle.sand_fronts.proofs.Counted.{AreIn, AreNone}
 abbrev pub invariant-loop-position : goal.invariant-loop-position
 invariant-loop-position l = record {
   each : length l.counts.each.items ≡ length l.initial.counts.each.items;
+  room : vec_capacity l.counts.spilled ≡ vec_capacity l.initial.counts.spilled;
   marks : l.counts.marks ≡ l.initial.counts.marks;
   sound : (m : ℕ) → IsCount (counts_of l.counts m);
   bound : (m p : ℕ) → p < 64 → counted (counts_of l.counts m) p ≤ counted (counts_of l.initial.counts m) p;

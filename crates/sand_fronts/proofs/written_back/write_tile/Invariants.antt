@@ -1,13 +1,13 @@
 use Rattle.sand_model.specs.Sand.{sum_below}
 use Rattle.sand_tiles.specs.Places.{bit}
+use Rattle.sand_fronts.specs.Boards.{counts_of}
 use Rattle.sand_fronts.specs.WrittenBack.{Follows}
-use Rattle.sand_fronts.proofs.WrittenBack.{TileWritten, AreLeft}
+use Rattle.sand_fronts.proofs.WrittenBack.{TileWritten}
 use Rattle.sand_fronts.proofs.written_back.write_tile.Given as goal
 
 abbrev pub invariant-places : goal.invariant-places
 invariant-places l = record {
-  written : TileWritten l.shape l.k l.fn.count l.set l.rest l.fn.odometer l.odometer;
-  left : AreLeft l.fn.count l.count l.rest;
+  written : TileWritten l.shape l.k (counts_of l.counts l.k) l.set l.rest l.fn.odometer l.odometer;
   follows : Follows l.shape l.fn.heights l.heights l.fn.odometer l.odometer;
 }
 

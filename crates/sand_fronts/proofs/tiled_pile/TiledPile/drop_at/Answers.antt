@@ -51,7 +51,12 @@ invariant_of-self c =
     let each = is.settled.counts in
     pile_after c.topple_grain-total.new.board c.topple_grain-total.new.sand _ c.self.inside.board.shape is.shape is.board
     is.all_open is.settled.sand is.settled.quiet
-    (record { len = each.len; marks_each = c.avalanche_of.ensures.len ∙ each.marks_each; sound = each.sound })
+    (record {
+      len = each.len;
+      room = each.room;
+      marks_each = c.avalanche_of.ensures.len ∙ each.marks_each;
+      sound = each.sound;
+    })
     (counts_sites c.self.inside.board.shape (counts_of c.self.inside.counts) (counts_of c.topple_grain-total.new.counts)
     c.self.invariant.at_sites is.settled.counted)
     c.avalanche_of.ensures.none

@@ -173,6 +173,7 @@ invariant_of-self-2 c =
     is.all_open is.settled.sand is.settled.quiet
     (record {
       len = written.counts_each ∙ each.len;
+      room = written.room ∙ each.room;
       marks_each = c.avalanche_of.ensures.len ∙ ap (λ (x : MarksView). length x.sets) written.marks ∙ each.marks_each;
       sound = written.sound;
     })

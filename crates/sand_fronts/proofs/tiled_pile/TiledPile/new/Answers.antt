@@ -27,6 +27,7 @@ invariant_of-result c =
           (tile_at c.in_ok-tiles.tiles.items) c.requires.low c.in_ok-tiles.ensures.heights);
       counts = record {
         len = c.in_ok-counts.ensures.len.0 ∙ c.tiles-n.ensures.value ∙ sym n;
+        room = c.in_ok-counts.ensures.room ∙ c.tiles-n.ensures.value ∙ sym n;
         marks_each = c.in_ok-counts.ensures.len.1 ∙ c.tiles-n.ensures.value ∙ sym n;
         sound = c.in_ok-counts.ensures.sound;
       };

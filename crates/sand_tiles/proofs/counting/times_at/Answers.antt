@@ -1,10 +1,10 @@
 use Rattle.std.proofs.Common.{arith}
 use Rattle.sand_tiles.proofs.Bits.{read_bit}
-use Rattle.sand_tiles.proofs.counting.number_at.Goals as goal
+use Rattle.sand_tiles.proofs.counting.times_at.Goals as goal
 
 pub returns : goal.returns
 returns c =
-    let k = c.args.planes.now in
+    let k = c.args.recent.now.planes in
     let p = c.args.place in
     let a = read_bit k.ones p in
     let b = read_bit k.twos p in
