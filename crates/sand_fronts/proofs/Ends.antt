@@ -1,6 +1,7 @@
 -- How a wave begins, the heights after it, and when the next one follows.
-use Rattle.std.proofs.Common.{ℕ, ◌≡◌, ◌≢◌, ◌+◌, ◌-◌, ◌*◌, ◌<◌, ◌≤◌, sym, ◌∙◌, ap, arith, ⊎_elim}
+use Rattle.std.proofs.Common.{ℕ, ◌≡◌, ◌≢◌, ◌+◌, ◌-◌, ◌*◌, ◌<◌, ◌≤◌, sym, ◌∙◌, ap, arith}
 use Rattle.std.proofs.lemmas.Bool.{cases_eq}
+use Rattle.std.proofs.lemmas.Bool.Decides.{nat_tests}
 use Rattle.sand_model.specs.Grid.{Grid, sites}
 use Rattle.sand_model.specs.Sand.{Stabilises, IsToppled, flow, one_at}
 use Rattle.sand_model.proofs.Flow.{flow_le, flow_same, flow-add, flow-one_at}
@@ -14,10 +15,11 @@ use Rattle.sand_model.specs.Underway.{Advances}
 use Rattle.sand_fronts.specs.Waves.{toppled, IsWave, AreAtRest, heights_before}
 use Rattle.sand_fronts.proofs.OnTiles.{place_below, on_below, height_low}
 use Rattle.sand_fronts.proofs.Sums.{flow_none}
+use Rattle.sand_fronts.proofs.Waves.{IsUnderWay}
 
 -- before the first toppling
 pub first_wave : (g : Grid) (site : ℕ) (τ : ℕ → Tile) → AreAtRest g site τ → site < sites g
-    → IsWave g site (heights_before g site τ) τ
+    → IsUnderWay g site (heights_before g site τ) τ (λ m p. 0)
 first_wave g site τ rest inside =
     let none : (j : ℕ) → toppled g τ j ≡ 0 = λ j. rest.quiet.clear (tile_of g j) (place_of g j) (place_below g j) in
     let no_flow : (j : ℕ) → j < sites g → flow g (toppled g τ) j ≡ 0 =
@@ -42,10 +44,7 @@ first_wave g site τ rest inside =
     }
 
 one_at_le : (v : ℕ → ℕ) (i j : ℕ) → 1 ≤ v i → one_at i j ≤ v j
-one_at_le v i j some = ⊎_elim
-    (λ (e : i ≡ j). let o = sym (ap (one_at i) e) ∙ one_at_same i in let a = ap v e in omega arith)
-    (λ (ne : i ≡ j → ⊥). let o = one_at_other i j ne in omega arith)
-    (cases_eq i j)
+one_at_le v i j some = grind (arith, nat_tests)
 
 -- a whole wave from the heights h: the dropped site had 4 and has toppled, the others had at most 3, and none is due
 pub record HasPassed (g : Grid) (site : ℕ) (h : ℕ → ℕ) (τ : ℕ → Tile) : Type 0 where
@@ -66,17 +65,12 @@ pub wave_balance : {g : Grid} {site : ℕ} {h : ℕ → ℕ} {τ : ℕ → Tile}
     → (j : ℕ) → j < sites g → k j + 4 * toppled g τ j ≡ h j + flow g (toppled g τ) j
 wave_balance {g} {site} {h} {τ} {k} past leaves j l =
     let started = past.started in
-    ⊎_elim
-    (λ (e : j ≡ site).
-    let a = ap k e in let b = ap (toppled g τ) e in let c = ap h e in let d = ap (flow g (toppled g τ)) e in
     let held = leaves.held in
-    omega arith)
-    (λ (ne : j ≡ site → ⊥).
-    let at = past.wave.at_open j l ne in
+    let at = past.wave.at_open j l in
     let none = past.none_due j in
-    let o = leaves.others j l ne in
-    omega arith)
-    (cases_eq j site)
+    let others = leaves.others j l in
+    let either = cases_eq j site in
+    grind arith
 
 -- the wave was a legal sequence of topplings
 pub wave_advances : {g : Grid} {site : ℕ} {h : ℕ → ℕ} {τ : ℕ → Tile} {k : ℕ → ℕ} (u v : ℕ → ℕ)
@@ -120,44 +114,33 @@ wave_advances {g} {site} {h} {τ} {k} u v past leaves sums =
       grains_fall = let s = laplacian_sum g h t k toppled' in omega arith;
     }
 
--- if the held site is 0 in the planes and others have toppled, it has 4 again
-pub four_again : {g : Grid} {site : ℕ} {h : ℕ → ℕ} {τ : ℕ → Tile} {k : ℕ → ℕ} (i : ℕ)
-    → HasPassed g site h τ → Leaves g site h τ k → height (τ (tile_of g site)) (place_of g site) ≡ 0
-    → i < sites g → i ≢ site → 1 ≤ toppled g τ i → k site ≡ 4
-four_again {g} {site} {h} {τ} {k} i past leaves empty li ni some =
+-- if the held site is 0 in the planes and others have toppled, all its neighbours have
+pub four_again : {g : Grid} {site : ℕ} {h : ℕ → ℕ} {τ : ℕ → Tile} (i : ℕ)
+    → HasPassed g site h τ → height (τ (tile_of g site)) (place_of g site) ≡ 0
+    → i < sites g → i ≢ site → 1 ≤ toppled g τ i → flow g (toppled g τ) site ≡ 4
+four_again {g} {site} {h} {τ} i past empty li ni some =
     let inside = past.inside in
     let started = past.started in
     let four = past.four in
     let t = toppled g τ in
     let most = flow_le g t (λ j. 1) (λ j l. bit_le _ _) site inside in
     let ones = flow_ones g site in
-    let held = leaves.held in
     let at_held = past.wave.at_held in
-    ⊎_elim
-    (λ (none : flow g t site ≡ 0).
-    let alone : Stabilises g h (one_at site) = record {
+    let alone : flow g t site ≡ 0 → Stabilises g h (one_at site) = λ none. record {
       at_most_three = λ j l.
           let less = flow_le g (one_at site) t (λ m x. one_at_le t site m (omega arith)) j l in
-          ⊎_elim
-          (λ (e : j ≡ site).
-          let a = ap h e in let b = ap (flow g t) e in let o = ap (one_at site) e ∙ one_at_same site in
-          omega arith)
-          (λ (ne : j ≡ site → ⊥).
-          let lj = past.low j l ne in
-          let at = past.wave.at_open j l ne in
-          let d = past.none_due j in
-          let one = height_low (τ (tile_of g j)) (place_of g j) in
-          ⊎_elim
-          (λ (z : t j ≡ 0). omega arith)
-          (λ (nz : t j ≡ 0 → ⊥).
           let turned = flow-one_at g site j inside l in
-          let few = flow_le g (λ m. one_at m j) t (λ m x. let c = one_at_comm m j in let o = one_at_le t j m (omega arith) in omega arith) site inside in
-          omega arith)
-          (cases_eq (t j) 0))
-          (cases_eq j site);
+          let few = λ (one : 1 ≤ t j). flow_le g (λ m. one_at m j) t
+          (λ m x. let c = one_at_comm m j in let o = one_at_le t j m one in omega arith) site inside in
+          let at = past.wave.at_open j l in
+          let low = past.low j l in
+          let due = past.none_due j in
+          let three = height_low (τ (tile_of g j)) (place_of g j) in
+          let either = cases_eq j site in
+          grind (arith, nat_tests);
     } in
-    let n = past.wave.needed (one_at site) alone i li in
+    let nonzero : flow g t site ≢ 0 = λ none.
+    let n = past.wave.needed (one_at site) (alone none) i li in
     let o = one_at_other site i (λ e. ni (sym e)) in
-    absurd (omega arith))
-    (λ (nz : flow g t site ≡ 0 → ⊥). omega arith)
-    (cases_eq (flow g t site) 0)
+    omega arith in
+    omega arith

@@ -1,7 +1,8 @@
 -- Tiles filled with a number for each site.
 use Rattle.std.proofs.Common.{ℕ, zero, suc, Bool, true, false, cond, List, ◌∷◌, [], ◌++◌, length, get_or, Some, None, ◌≡◌, ◌+◌, ◌-◌, ◌*◌, ◌/◌, ◌%◌, ◌^◌, ◌<◌, ◌≤◌, refl, sym, ◌∙◌, ap, subst, arith, ⊎_elim}
 use Rattle.std.specs.Prelude.{bit_or}
-use Rattle.std.proofs.lemmas.Bool.{cases_lt, le-leb, lt-ltb, ltb-true, and_parts, and_from}
+use Rattle.std.proofs.lemmas.Bool.{cases_lt}
+use Rattle.std.proofs.lemmas.Bool.Decides.{nat_tests}
 use Rattle.std.proofs.lemmas.List.{get_or_append_left, get_or_push}
 use Rattle.std.proofs.lemmas.Nat.Bits.{bit_at_lowest, bit_at_above, bit_at_ones}
 use Rattle.std.proofs.lemmas.Option.{same_Some, none-some}
@@ -14,7 +15,7 @@ use Rattle.sand_tiles.proofs.Moves.{bit_shl, bit_shl_low}
 use Rattle.sand_fronts.specs.declared.reach.Spot.{Spot}
 use Rattle.sand_fronts.specs.Tiling.{pitch, tiles, row_at, column_at, is_site, site_on, on_tiles}
 use Rattle.sand_fronts.specs.Filling.{Tells, IsFilled, IsInner}
-use Rattle.sand_fronts.proofs.OnTiles.{on_site, off_site, on_below, on_place}
+use Rattle.sand_fronts.proofs.OnTiles.{in_grid, on_site, off_site, on_below, on_place}
 use Rattle.sand_fronts.proofs.Boards.{tile_inside}
 
 -- ---- a bit before those of a word
@@ -52,17 +53,12 @@ untold false x e = refl
 abbrev spot_at : Grid → ℕ → ℕ → Spot
 spot_at g k p = record { column = column_at g k p; row = row_at g k p }
 
-in_grid : (g : Grid) (k p : ℕ) → is_site g k p ≡ true → (row_at g k p < g.height) × (column_at g k p < g.width)
-unfolding is_site
-in_grid g k p is =
-    let back = and_parts _ _ (and_parts _ _ is).1 in
-    (ltb-true (row_at g k p) g.height back.0, ltb-true (column_at g k p) g.width back.1)
-
 pub spot_in : (g : Grid) (k p : ℕ) (s : Spot) → cond (is_site g k p) (Some (spot_at g k p)) None ≡ Some s
     → (s.row < g.height) × (s.column < g.width)
 spot_in g k p s e =
     let t = told (is_site g k p) (spot_at g k p) s e in
-    subst (λ (x : Spot). (x.row < g.height) × (x.column < g.width)) t.1 (in_grid g k p t.0)
+    let bounds = in_grid g k p t.0 in
+    subst (λ (x : Spot). (x.row < g.height) × (x.column < g.width)) t.1 (bounds.2, bounds.3)
 
 pub site_number : (g : Grid) (k p : ℕ) (s : Spot) (n : ℕ) (post : Spot → ℕ → Type 0)
     → cond (is_site g k p) (Some (spot_at g k p)) None ≡ Some s → post s n
@@ -147,6 +143,4 @@ pub inner_site : (g : Grid) (k p : ℕ) → IsInner g k → p < 64 → is_site g
 unfolding is_site
 inner_site g k p inner low =
     let above = inner.above in let before = inner.before in let below = inner.below in let after = inner.after in
-    and_from _ _
-    (and_from _ _ (le-leb 2 (k / pitch g) (omega arith)) (le-leb 1 (k % pitch g) (omega arith)))
-    (and_from _ _ (lt-ltb (row_at g k p) g.height (omega arith)) (lt-ltb (column_at g k p) g.width (omega arith)))
+    grind (arith, nat_tests)

@@ -1,11 +1,12 @@
 -- From one wave of a drop to the next.
-use Rattle.std.proofs.Common.{ℕ, Bool, true, false, cond, eqb, ltb, leb, ◌&&◌, List, ◌≡◌, ◌≢◌, ◌+◌, ◌-◌, ◌*◌, ◌^◌, ◌<◌, ◌≤◌, refl, sym, ◌∙◌, ap, arith, ⊎_elim}
+use Rattle.std.proofs.Common.{ℕ, Bool, true, false, cond, eqb, ltb, leb, ◌&&◌, List, ◌≡◌, ◌≢◌, ◌+◌, ◌-◌, ◌*◌, ◌^◌, ◌<◌, ◌≤◌, refl, sym, ◌∙◌, ap, subst, arith, ⊎_elim}
 use Rattle.std.proofs.Math.Nat.{mul-le-mul_right}
-use Rattle.std.proofs.lemmas.Bool.{cases_Bool, cases_eq, eq-eqb, ne_eqb, and_parts, and_cases, eqb-true, eqb-false, ltb-true, ltb-false, leb-true, leb-false}
+use Rattle.std.proofs.lemmas.Bool.{cases_eq, eq-eqb, ne_eqb, and_parts, eqb-true, leb-true, leb-false}
+use Rattle.std.proofs.lemmas.Bool.Decides.{nat_tests}
 use Rattle.sand_model.specs.Grid.{Grid, IsGrid, sites, missing}
 use Rattle.sand_model.specs.Sand.{IsToppled, IsSettled, IsUnderway, flow, one_at, topplings, lost, weight, grain_weight, sum_below}
 use Rattle.sand_model.specs.Underway.{Advances}
-use Rattle.sand_model.proofs.Flow.{flow_le, flow_same}
+use Rattle.sand_model.proofs.Flow.{flow_le}
 use Rattle.sand_model.proofs.Sandpile.{flow_ones, weight_after}
 use Rattle.sand_model.proofs.SumsBelow.{sum_below_same, sum_below_le, sum_below-add, sum_below-scale, sum_below-zero, sum_below-one_at, one_at_same, one_at_other}
 use Rattle.sand_model.proofs.Lists.{all_or_one, at_most_one}
@@ -80,10 +81,10 @@ alone_rests {g} {site} {h} {τ} past few back =
     let part = at_most_sum_below (sites g) t site inside in
     let others = others_none g site t inside started few in
     let heavy = sum_below_le (sites g) (λ i. h i * grain_weight g i) (λ i. k i * grain_weight g i) (λ j l.
-    let more : h j ≤ k j = ⊎_elim
-    (λ (e : j ≡ site). let a = ap h e in let b = ap k e in omega arith)
-    (λ (ne : j ≡ site → ⊥). let a = balance j l in let z = others j l ne in omega arith)
-    (cases_eq j site) in
+    let a = balance j l in
+    let z = others j l in
+    let either = cases_eq j site in
+    let more : h j ≤ k j = grind arith in
     mul_le (h j) (k j) (grain_weight g j) more) in
     omega arith
 
@@ -112,43 +113,11 @@ held_has {g} {site} {h} {τ} more past test =
     let o = one_at_same site in
     let most = flow_le g t (λ j. 1) (λ j l. bit_le (τ (tile_of g j)).wave (place_of g j)) site inside in
     let ones = flow_ones g site in
-    ⊎_elim
-    (λ (yes : more ≡ true).
-    let parts = and_parts (ltb 1 (topplings g t)) (eqb (heights_on g τ site) 0) (sym test ∙ yes) in
-    let many = ltb-true 1 (topplings g t) parts.0 in
-    let empty = eqb-true (heights_on g τ site) 0 parts.1 in
+    let alone = alone_rests past in
+    let again = λ (many : 1 < topplings g t) (empty : heights_on g τ site ≡ 0).
     let i = other_toppled g site t inside past.started many in
-    let again = four_again i.0 past (left_leaves past) empty i.1 i.2 i.3 in
-    let held = left_held past in
-    ap (λ b. cond b (heights_before g site τ site) (heights_on g τ site)) yes ∙ omega arith)
-    (λ (no : more ≡ false).
-    let not_four : flow g t site ≢ 4 = λ back. ⊎_elim
-    (λ (few : ltb 1 (topplings g t) ≡ false). alone_rests past (ltb-false 1 (topplings g t) few) back)
-    (λ (some : eqb (heights_on g τ site) 0 ≡ false). eqb-false (heights_on g τ site) 0 some (omega arith))
-    (and_cases (ltb 1 (topplings g t)) (eqb (heights_on g τ site) 0) (sym test ∙ no)) in
-    ap (λ b. cond b (heights_before g site τ site) (heights_on g τ site)) no ∙ omega arith)
-    (cases_Bool more)
-
--- other sites have what is in the planes, and equal planes leave equal heights
-now_other : (g : Grid) (site : ℕ) (more : Bool) (τ : ℕ → Tile) (j : ℕ) → j ≢ site
-    → heights_now g site more τ j ≡ heights_on g τ j
-now_other g site true τ j ne = let o = one_at_other site j (λ e. ne (sym e)) in omega arith
-now_other g site false τ j ne = refl
-
-now_same : (g : Grid) (site : ℕ) (more : Bool) (τ σ : ℕ → Tile) (j : ℕ) → heights_on g τ j ≡ heights_on g σ j
-    → heights_now g site more τ j ≡ heights_now g site more σ j
-now_same g site true τ σ j e = omega arith
-now_same g site false τ σ j e = e
-
-underway_as : (g : Grid) (s u v t : ℕ → ℕ) → ((j : ℕ) → j < sites g → u j ≡ v j) → IsUnderway g s u t
-    → IsUnderway g s v t
-underway_as g s u v t same before = record {
-  toppled = record {
-    balance = λ j l.
-        let a = before.toppled.balance j l in let b = same j l in let c = flow_same g u v same j l in omega arith;
-  };
-  bounded = λ w stable j l. let a = before.bounded w stable j l in let b = same j l in omega arith;
-}
+    four_again i.0 past empty i.1 i.2 i.3 in
+    grind (arith, nat_tests)
 
 -- ---- what has been counted
 
@@ -169,15 +138,14 @@ none_counted g c m p low = let b = on_below g (grown_on g c c) m p 0 low (λ j l
 pub waves_begin : (g : Grid) (site : ℕ) (τ : ℕ → Tile) (c : ℕ → Count) → AreAtRest g site τ
     → AreWaves g site true τ τ c c
 waves_begin g site τ c rest =
-    let none : (j : ℕ) → j < sites g → 0 ≡ grown_on g c c j = λ j l. omega arith in
+    let h = heights_before g site τ in
+    let zero : (j : ℕ) → 0 ≡ grown_on g c c j = λ j. omega arith in
+    let none : (λ (j : ℕ). 0) ≡ grown_on g c c = λ i j. zero j i in
     record {
       quiet = rest.quiet;
       empty = λ is. rest.empty;
-      advances = record {
-        underway = λ s before. underway_as g s (λ j. 0) (grown_on g c c) (heights_before g site τ) none before;
-        weight_pays = let z = sum_below_same (sites g) (λ j. 0) (grown_on g c c) none in omega arith;
-        grains_fall = omega arith;
-      };
+      advances = subst (λ (u : ℕ → ℕ). Advances g (λ j. 0) h u h) none
+          (record { underway = λ s before. before; weight_pays = omega arith; grains_fall = omega arith });
       counts = none_counted g c;
     }
 
@@ -228,9 +196,10 @@ waves_more {g} {site} more {τ} {σ} {us} {vs} {c} d' {e'} inside waves whole co
     let test' : more ≡ (ltb 1 (topplings g t) && eqb (heights_on g ω site) 0) =
     test ∙ ap (λ x. ltb 1 (topplings g t) && eqb x 0) (same site) in
     let has = held_has more past test' in
-    let held = now_same g site more ρ ω site (same site) ∙ has in
-    let leaves : Leaves g site h ω k =
-    record { others = λ j l ne. now_other g site more ρ j ne ∙ same j; held = omega arith } in
+    let leaves : Leaves g site h ω k = record {
+      others = λ j l ne. let s = same j in grind (arith, nat_tests);
+      held = let s = same site in grind (arith, nat_tests);
+    } in
     let sums : (j : ℕ) → j < sites g → grown_on g c e j ≡ grown_on g c d j + t j =
     λ j l. wave_counts g c waves.counts counts clear j in
     let next = wave_advances (grown_on g c d) (grown_on g c e) past leaves sums in

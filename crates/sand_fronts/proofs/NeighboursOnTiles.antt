@@ -55,63 +55,49 @@ at_cell g u j y x less e = let s = site_cell g j y x less e in same2 u _ _ _ _ s
 -- ---- one step on the tiles
 
 -- a step stays in the tile, or leaves it
-stays : (b : Bool) (m n c : ℕ) → (b ≡ true → m ≡ c) → (b ≡ false → n ≡ c) → cond b m 0 + cond b 0 n ≡ c
-stays true m n c so other = let e : m + 0 ≡ c = omega (arith, so refl) in e
-stays false m n c so other = let e : 0 + n ≡ c = omega (arith, other refl) in e
+stays : (u : ℕ → ℕ → ℕ) (b : Bool) {k l m p q r : ℕ} → (b ≡ true → (k ≡ m) × (p ≡ r)) → (b ≡ false → (l ≡ m) × (q ≡ r))
+    → cond b (u k p) 0 + cond b 0 (u l q) ≡ u m r
+stays u true so other = let e = same2 u _ _ _ _ (so refl).0 (so refl).1 in omega arith
+stays u false so other = let e = same2 u _ _ _ _ (other refl).0 (other refl).1 in omega arith
 
-leaves : (b : Bool) (m n c : ℕ) → (b ≡ true → n ≡ c) → (b ≡ false → m ≡ c) → cond b 0 m + cond b n 0 ≡ c
-leaves true m n c so other = let e : 0 + n ≡ c = omega (arith, so refl) in e
-leaves false m n c so other = let e : m + 0 ≡ c = omega (arith, other refl) in e
+leaves : (u : ℕ → ℕ → ℕ) (b : Bool) {k l m p q r : ℕ} → (b ≡ true → (l ≡ m) × (q ≡ r)) → (b ≡ false → (k ≡ m) × (p ≡ r))
+    → cond b 0 (u k p) + cond b (u l q) 0 ≡ u m r
+leaves u true so other = let e = same2 u _ _ _ _ (so refl).0 (so refl).1 in omega arith
+leaves u false so other = let e = same2 u _ _ _ _ (other refl).0 (other refl).1 in omega arith
 
 north_step : (g : Grid) (u : ℕ → ℕ → ℕ) (y x : ℕ) → 8 ≤ y
     → inner_north (u (tile g y x)) (place y x) + over_north (u (tile g y x - pitch g)) (place y x)
     ≡ cell g u (y - 1) x
 unfolding inner_north over_north
-north_step g u y x high = leaves (ltb (place y x) 8) _ _ _
+north_step g u y x high = leaves u (ltb (place y x) 8)
     (λ is. let low = ltb-true (place y x) 8 is in
-    let e : y / 8 ≡ (y - 1) / 8 + 1 = omega arith in
-    let m = ap (λ t. t * pitch g) e in
-    same2 u _ _ _ _ (let t : tile g y x - pitch g ≡ tile g (y - 1) x = omega arith in t)
-    (let q : place y x + 56 ≡ place (y - 1) x = omega arith in q))
+    let m = ap (λ t. t * pitch g) (let e : y / 8 ≡ (y - 1) / 8 + 1 = omega arith in e) in (omega arith, omega arith))
     (λ not. let low = ltb-false (place y x) 8 not in
-    let e : y / 8 ≡ (y - 1) / 8 = omega arith in
-    same2 u _ _ _ _ (ap (λ t. t * pitch g + x / 8) e) (let q : place y x - 8 ≡ place (y - 1) x = omega arith in q))
+    (ap (λ t. t * pitch g + x / 8) (let e : y / 8 ≡ (y - 1) / 8 = omega arith in e), omega arith))
 
 south_step : (g : Grid) (u : ℕ → ℕ → ℕ) (y x : ℕ)
     → inner_south (u (tile g y x)) (place y x) + over_south (u (tile g y x + pitch g)) (place y x)
     ≡ cell g u (y + 1) x
 unfolding inner_south over_south
-south_step g u y x = stays (ltb (place y x) 56) _ _ _
+south_step g u y x = stays u (ltb (place y x) 56)
     (λ is. let low = ltb-true (place y x) 56 is in
-    let e : y / 8 ≡ (y + 1) / 8 = omega arith in
-    same2 u _ _ _ _ (ap (λ t. t * pitch g + x / 8) e) (let q : place y x + 8 ≡ place (y + 1) x = omega arith in q))
+    (ap (λ t. t * pitch g + x / 8) (let e : y / 8 ≡ (y + 1) / 8 = omega arith in e), omega arith))
     (λ not. let low = ltb-false (place y x) 56 not in
-    let e : (y + 1) / 8 ≡ y / 8 + 1 = omega arith in
-    let m = ap (λ t. t * pitch g) e in
-    same2 u _ _ _ _ (let t : tile g y x + pitch g ≡ tile g (y + 1) x = omega arith in t)
-    (let q : place y x - 56 ≡ place (y + 1) x = omega arith in q))
+    let m = ap (λ t. t * pitch g) (let e : (y + 1) / 8 ≡ y / 8 + 1 = omega arith in e) in (omega arith, omega arith))
 
 west_step : (g : Grid) (u : ℕ → ℕ → ℕ) (y x : ℕ) → 8 ≤ x
     → inner_west (u (tile g y x)) (place y x) + over_west 7 (u (tile g y x - 1)) (place y x) ≡ cell g u y (x - 1)
 unfolding inner_west over_west
-west_step g u y x high = leaves (eqb (place y x % 8) 0) _ _ _
-    (λ is. let first = eqb-true (place y x % 8) 0 is in
-    same2 u _ _ _ _ (let t : tile g y x - 1 ≡ tile g y (x - 1) = omega arith in t)
-    (let q : place y x + 7 ≡ place y (x - 1) = omega arith in q))
-    (λ not. let other = eqb-false (place y x % 8) 0 not in
-    same2 u _ _ _ _ (let t : tile g y x ≡ tile g y (x - 1) = omega arith in t)
-    (let q : place y x - 1 ≡ place y (x - 1) = omega arith in q))
+west_step g u y x high = leaves u (eqb (place y x % 8) 0)
+    (λ is. let first = eqb-true (place y x % 8) 0 is in (omega arith, omega arith))
+    (λ not. let other = eqb-false (place y x % 8) 0 not in (omega arith, omega arith))
 
 east_step : (g : Grid) (u : ℕ → ℕ → ℕ) (y x : ℕ)
     → inner_east (u (tile g y x)) (place y x) + over_east 7 (u (tile g y x + 1)) (place y x) ≡ cell g u y (x + 1)
 unfolding inner_east over_east
-east_step g u y x = leaves (eqb (place y x % 8) 7) _ _ _
-    (λ is. let last = eqb-true (place y x % 8) 7 is in
-    same2 u _ _ _ _ (let t : tile g y x + 1 ≡ tile g y (x + 1) = omega arith in t)
-    (let q : place y x - 7 ≡ place y (x + 1) = omega arith in q))
-    (λ not. let other = eqb-false (place y x % 8) 7 not in
-    same2 u _ _ _ _ (let t : tile g y x ≡ tile g y (x + 1) = omega arith in t)
-    (let q : place y x + 1 ≡ place y (x + 1) = omega arith in q))
+east_step g u y x = leaves u (eqb (place y x % 8) 7)
+    (λ is. let last = eqb-true (place y x % 8) 7 is in (omega arith, omega arith))
+    (λ not. let other = eqb-false (place y x % 8) 7 not in (omega arith, omega arith))
 
 -- ---- one step on the grid
 
@@ -207,9 +193,7 @@ west_side g u j k p blank inside tile_is place_is =
     let sh : shift_west g k ≡ (w - 1) % 8 = ap (λ s. cond s ((w - 1) % 8) 7) seam in
     ap (λ t. cond t (at_site g u (j + (w - 1))) 0) round
     ∙ at_cell g u (j + (w - 1)) y (w - 1) (omega arith) (omega arith)
-    ∙ sym (leaves (eqb (p % 8) 0) _ _ _
-    (λ is. same2 u _ _ _ _ (let t : to_west g k ≡ tile g (y + 16) (w - 1 + 8) = omega arith in t)
-    (let q : p + shift_west g k ≡ place (y + 16) (w - 1 + 8) = omega arith in q))
+    ∙ sym (leaves u (eqb (p % 8) 0) (λ is. (omega arith, omega arith))
     (λ not. let e = eqb-false (p % 8) 0 not in absurd (e (omega arith)))))
     (λ (flat : joins g.edge ≡ false).
     ap (λ t. cond t (at_site g u (j + (w - 1))) 0) flat

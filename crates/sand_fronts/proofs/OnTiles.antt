@@ -1,10 +1,10 @@
 -- Numbers by site, read by tile and place.
 use Rattle.std.proofs.Common.{ℕ, true, false, cond, ◌⊎◌, ◌≡◌, ◌+◌, ◌*◌, ◌/◌, ◌%◌, ◌<◌, ◌≤◌, refl, sym, ◌∙◌, ap, subst, arith, ⊎_elim}
-use Rattle.std.proofs.lemmas.Bool.{cases_Bool, cases_eq, lt-ltb, le-ltb, le-leb, lt-leb, ltb-true, leb-true, and_parts, and_from, and_left, and_right}
+use Rattle.std.proofs.lemmas.Bool.{cases_Bool}
+use Rattle.std.proofs.lemmas.Bool.Decides.{nat_tests}
 use Rattle.std.proofs.lemmas.Nat.{div-mul-add, mod-mul-add, div-add-mod', mul-add-lt, div_below}
 use Rattle.sand_model.specs.Grid.{Grid, sites}
 use Rattle.sand_model.specs.Sand.{one_at}
-use Rattle.sand_model.proofs.SumsBelow.{one_at_same, one_at_other}
 use Rattle.sand_fronts.specs.Tiling.{pitch, tile_of, place_of, row_at, column_at, is_site, site_on, on_tiles}
 use Rattle.sand_fronts.specs.Waves.{at_site}
 use Rattle.sand_fronts.proofs.NeighboursOnTiles.{tile, place, IsBlank, parts_of}
@@ -35,35 +35,33 @@ back_again g j inside =
     let c : k % pitch g ≡ x / 8 + 1 = mod-mul-add (y / 8 + 2) (pitch g) (x / 8 + 1) small in
     let row_is : row_at g k p ≡ y = omega arith in
     let column_is : column_at g k p ≡ x = omega arith in
-    let high : y < g.height = div_below j w g.height at.some (omega arith) in (
-      and_from _ _ (and_from _ _ (le-leb 2 (k / pitch g) (omega arith)) (le-leb 1 (k % pitch g) (omega arith)))
-          (and_from _ _ (lt-ltb (row_at g k p) g.height (omega arith)) (lt-ltb (column_at g k p) w (omega arith))),
-      ap (λ t. t * w + column_at g k p) row_is ∙ omega arith,
-    )
+    let high : y < g.height = div_below j w g.height at.some (omega arith) in
+    (grind (arith, nat_tests), ap (λ t. t * w + column_at g k p) row_is ∙ omega arith)
+
+-- a place that is a site is behind the border and in the grid
+pub in_grid : (g : Grid) (k p : ℕ) → is_site g k p ≡ true
+    → (2 ≤ k / pitch g) × (1 ≤ k % pitch g) × (row_at g k p < g.height) × (column_at g k p < g.width)
+unfolding is_site
+in_grid g k p is = grind (arith, nat_tests)
 
 -- from a place that is a site to the site, and back
 pub there_again : (g : Grid) (k p : ℕ) → p < 64 → is_site g k p ≡ true
     → (site_on g k p < sites g) × (tile_of g (site_on g k p) ≡ k) × (place_of g (site_on g k p) ≡ p)
-unfolding tile_of place_of is_site site_on
+unfolding tile_of place_of site_on
 there_again g k p low is =
     let w = g.width in
-    let front = and_parts _ _ (and_parts _ _ is).0 in
-    let back = and_parts _ _ (and_parts _ _ is).1 in
-    let two = leb-true 2 (k / pitch g) front.0 in
-    let one = leb-true 1 (k % pitch g) front.1 in
-    let high = ltb-true (row_at g k p) g.height back.0 in
-    let wide = ltb-true (column_at g k p) w back.1 in
+    let bounds = in_grid g k p is in
+    let two = bounds.0 in let one = bounds.1 in
     let parts = div-add-mod' k (pitch g) in
     let r = row_at g k p in
     let c = column_at g k p in
-    let rd : (r * w + c) / w ≡ r = div-mul-add r w c wide in
-    let cd : (r * w + c) % w ≡ c = mod-mul-add r w c wide in
+    let rd : (r * w + c) / w ≡ r = div-mul-add r w c bounds.3 in
+    let cd : (r * w + c) % w ≡ c = mod-mul-add r w c bounds.3 in
     let r8 : r / 8 + 2 ≡ k / pitch g = omega arith in
     let c8 : c / 8 + 1 ≡ k % pitch g = omega arith in (
-      mul-add-lt r w c g.height high wide,
-      ap (λ t. (t / 8 + 2) * pitch g + ((r * w + c) % w / 8 + 1)) rd
-          ∙ ap (λ t. (r / 8 + 2) * pitch g + (t / 8 + 1)) cd ∙ ap (λ t. t * pitch g + (c / 8 + 1)) r8 ∙ omega arith,
-      ap (λ t. t % 8 * 8 + (r * w + c) % w % 8) rd ∙ ap (λ t. r % 8 * 8 + t % 8) cd ∙ omega arith,
+      mul-add-lt r w c g.height bounds.2 bounds.3,
+      rw (rd, cd) (ap (λ t. t * pitch g + (c / 8 + 1)) r8 ∙ omega arith),
+      rw (rd, cd) (omega arith),
     )
 
 pub at_on : (g : Grid) (v : ℕ → ℕ) (j : ℕ) → j < sites g → at_site g (on_tiles g v) j ≡ v j
@@ -83,21 +81,7 @@ on_tiles_blank g v y x less out =
     let p = place y x in
     let r : k / pitch g ≡ y / 8 = div-mul-add (y / 8) (pitch g) (x / 8) less in
     let c : k % pitch g ≡ x / 8 = mod-mul-add (y / 8) (pitch g) (x / 8) less in
-    off_site g v k p
-    (⊎_elim
-    (λ (above : y < 16). and_left _ _ (and_left _ _ (lt-leb 2 (k / pitch g) (omega arith))))
-    (λ (some : (16 + g.height ≤ y) ⊎ ((x < 8) ⊎ (8 + g.width ≤ x))). ⊎_elim
-    (λ (below : 16 + g.height ≤ y). and_right _ _ (and_left _ _ (le-ltb (row_at g k p) g.height (omega arith))))
-    (λ (columns : (x < 8) ⊎ (8 + g.width ≤ x)). ⊎_elim
-    (λ (before : x < 8). and_left _ _ (and_right _ _ (lt-leb 1 (k % pitch g) (omega arith))))
-    (λ (beyond : 8 + g.width ≤ x). and_right _ _ (and_right _ _ (le-ltb (column_at g k p) g.width (omega arith))))
-    columns)
-    some)
-    out)
-
-by_site : (g : Grid) (u : ℕ → ℕ → ℕ) (j k p : ℕ) → tile_of g j ≡ k → place_of g j ≡ p
-    → u (tile_of g j) (place_of g j) ≡ u k p
-by_site g u j k p a b = ap (λ m. u m (place_of g j)) a ∙ ap (u k) b
+    off_site g v k p (grind (arith, nat_tests))
 
 -- what holds of the numbers of a place's site, and of 0 at a place that is no site, holds of the numbers of the place
 pub on_place : (g : Grid) (k p : ℕ) (P : ((ℕ → ℕ) → ℕ) → Type 0) → p < 64
@@ -124,7 +108,7 @@ on_tiles_le g v w k p low le = on_each g k p (λ (r : (ℕ → ℕ) → ℕ). r 
 pub on_tiles_is : (g : Grid) (u : ℕ → ℕ → ℕ) (k p : ℕ) → p < 64 → (is_site g k p ≡ false → u k p ≡ 0)
     → u k p ≡ on_tiles g (at_site g u) k p
 on_tiles_is g u k p low none = on_place g k p (λ (r : (ℕ → ℕ) → ℕ). u k p ≡ r (at_site g u)) low
-    (λ j l tile place. sym (by_site g u j k p tile place)) none
+    (λ j l tile place. cc) none
 
 pub on_site : (g : Grid) (v : ℕ → ℕ) (k p : ℕ) → is_site g k p ≡ true → on_tiles g v k p ≡ v (site_on g k p)
 unfolding on_tiles
@@ -141,29 +125,13 @@ on_below g v m p most low few = on_each g m p (λ (r : (ℕ → ℕ) → ℕ). r
 -- sites of one tile are equal if their places are
 pub same_site : (g : Grid) (i j : ℕ) → i < sites g → j < sites g → tile_of g j ≡ tile_of g i
     → one_at (place_of g i) (place_of g j) ≡ one_at i j
-same_site g i j li lj tile = ⊎_elim
-    (λ (e : i ≡ j). ap (one_at (place_of g i)) (ap (place_of g) (sym e))
-    ∙ one_at_same (place_of g i) ∙ sym (ap (one_at i) (sym e) ∙ one_at_same i))
-    (λ (ne : i ≡ j → ⊥).
-    one_at_other (place_of g i) (place_of g j) (λ place. ne (sym (back_again g i li).1
-    ∙ ap (λ k. site_on g k (place_of g i)) (sym tile) ∙ ap (site_on g (tile_of g j)) place ∙ (back_again g j lj).1))
-    ∙ sym (one_at_other i j ne))
-    (cases_eq i j)
+same_site g i j li lj tile =
+    let b = (back_again g i li).1 in let c = (back_again g j lj).1 in grind (arith, nat_tests)
 
 -- a site is at its own place alone
 pub own_place : (g : Grid) (s m p : ℕ) → p < 64 → s < sites g
     → on_tiles g (one_at s) m p ≡ one_at (tile_of g s) m * one_at (place_of g s) p
-own_place g s m p low inside = ⊎_elim
-    (λ (here : tile_of g s ≡ m).
-    let t = ap (one_at (tile_of g s)) (sym here) ∙ one_at_same (tile_of g s) in
-    let both = ap (λ x. x * one_at (place_of g s) p) t in
-    let own = on_place g m p (λ (r : (ℕ → ℕ) → ℕ). r (one_at s) ≡ one_at (place_of g s) p) low
-    (λ j l tile place'. sym (same_site g s j inside l (tile ∙ sym here)) ∙ ap (one_at (place_of g s)) place')
-    (λ no. sym (one_at_other (place_of g s) p (λ place'. let b = (back_again g s inside).0 in cc))) in
-    omega arith)
-    (λ (ne : tile_of g s ≡ m → ⊥).
-    let both = ap (λ x. x * one_at (place_of g s) p) (one_at_other (tile_of g s) m ne) in
-    let none = on_place g m p (λ (r : (ℕ → ℕ) → ℕ). r (one_at s) ≡ 0) low
-    (λ j l tile place'. one_at_other s j (λ e. ne (ap (tile_of g) e ∙ tile))) (λ no. refl) in
-    omega arith)
-    (cases_eq (tile_of g s) m)
+own_place g s m p low inside =
+    let b = back_again g s inside in
+    on_place g m p (λ (r : (ℕ → ℕ) → ℕ). r (one_at s) ≡ one_at (tile_of g s) m * one_at (place_of g s) p) low
+    (λ j l tile place'. let c = (back_again g j l).1 in grind (arith, nat_tests)) (λ no. grind (arith, nat_tests))

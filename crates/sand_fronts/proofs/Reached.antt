@@ -4,12 +4,13 @@ use Rattle.std.specs.Prelude.{bit_xor}
 use Rattle.std.specs.Int.{abs_diff, trailing_zeros}
 use Rattle.std.proofs.Common.{w64}
 use Rattle.std.proofs.lemmas.Nat.Bits.{bit_at-trailing_zeros}
-use Rattle.std.proofs.lemmas.Bool.{cases_eq, cases_lt, and_parts, ltb-true, lt-ltb, le-ltb}
+use Rattle.std.proofs.lemmas.Bool.{cases_lt, lt-ltb, le-ltb}
+use Rattle.std.proofs.lemmas.Bool.Decides.{nat_tests}
 use Rattle.std.proofs.lemmas.Nat.{div-mul-add, mod-mul-add, mod_below, div_below}
 use Rattle.sand_model.specs.Grid.{Grid, IsGrid, sites, joins, column, row, distance}
 use Rattle.sand_model.specs.Sand.{sum_below, one_at}
 use Rattle.sand_model.specs.Lists.{one_if}
-use Rattle.sand_model.proofs.SumsBelow.{sum_below_same, sum_below-add, sum_below-one_at, one_at_same, one_at_other}
+use Rattle.sand_model.proofs.SumsBelow.{sum_below_same, sum_below-add, sum_below-one_at}
 use Rattle.sand_tiles.specs.Places.{bit}
 use Rattle.sand_tiles.proofs.Bits.{bit_le, bit_none, half, both_le}
 use Rattle.sand_fronts.specs.declared.reach.Spot.{Spot}
@@ -17,18 +18,13 @@ use Rattle.sand_fronts.specs.Reaching.{distance_within, spot_of, corner_of, IsRe
 use Rattle.sand_fronts.specs.Avalanches.{IsReached}
 use Rattle.sand_fronts.specs.Marking.{AreSites, AreToppled}
 use Rattle.sand_fronts.specs.Tiling.{tile_of, place_of, row_at, column_at, is_site, site_on}
-use Rattle.sand_fronts.proofs.OnTiles.{place_below, back_again, there_again, at_on, on_place}
+use Rattle.sand_fronts.proofs.OnTiles.{place_below, back_again, there_again, in_grid, at_on, on_place}
 use Rattle.sand_fronts.proofs.Gained.{cond_each}
 
 -- ---- bounds on the distance of a place of a tile
 
 columns_within : (x l c : ℕ) → c ≤ 7 → abs_diff x (l + c) ≤ max (abs_diff x l) (abs_diff x (l + 7))
 columns_within x l c few = omega arith
-
-shorter_within : (round : Bool) (a most w : ℕ) → a ≤ most
-    → cond round (min a (w - a)) a ≤ cond round (min most (w / 2)) most
-shorter_within true a most w le = omega arith
-shorter_within false a most w le = le
 
 pub within_farthest : (g : Grid) (s corner : Spot) (p across near down : ℕ) → p < 64
     → across ≡ max (abs_diff s.column corner.column) (abs_diff s.column (corner.column + 7))
@@ -37,12 +33,11 @@ pub within_farthest : (g : Grid) (s corner : Spot) (p across near down : ℕ) �
 within_farthest g s corner p across near down low wide tall is =
     let a = columns_within s.column corner.column (p % 8) (omega arith) in
     let b = columns_within s.row corner.row (p / 8) (omega arith) in
-    let c = shorter_within (joins g.edge) (abs_diff s.column (corner.column + p % 8)) across g.width (omega arith) in
-    omega arith
+    grind arith
 
 -- ---- place by place
 
-lowest : (n : ℕ) → n ≢ 0 → n < 2 ^ 64 → (trailing_zeros w64 n < 64) × (bit n (trailing_zeros w64 n) ≡ 1)
+pub lowest : (n : ℕ) → n ≢ 0 → n < 2 ^ 64 → (trailing_zeros w64 n < 64) × (bit n (trailing_zeros w64 n) ≡ 1)
 unfolding bit
 lowest n some fits = let l = bit_at-trailing_zeros w64 n (omega arith) fits in (l.0, l.1)
 
@@ -65,16 +60,9 @@ taken rest one some fits is =
       each = λ p low.
           let h = half rest one p in
           let b = both_le rest one p in
-          let b0 = b.0 in let b1 = b.1 in let b2 = b.2 in
-          let e = is p low in
-          ⊎_elim
-          (λ (same : place ≡ p).
-          let o = ap (one_at place) (sym same) ∙ one_at_same place in
-          let r = ap (bit rest) same in
           let w = first.1 in
-          omega arith)
-          (λ (ne : place ≡ p → ⊥). let o = one_at_other place p ne in omega arith)
-          (cases_eq place p);
+          let e = is p low in
+          grind (arith, nat_tests);
     }
 
 pub fewer_left : {rest next place : ℕ} → IsTaken rest next place → sum_below 64 (bit next) < sum_below 64 (bit rest)
@@ -106,14 +94,8 @@ pub reads_more : {g : Grid} {s corner : Spot} {set rest next reach far place : �
 reads_more {g} {s} {corner} {set} {rest} {next} {reach} {far} {place} d now before gone there most = record {
   within_set = λ p low. let a = before.within_set p low in let e = gone.each p low in omega arith;
   grows = let a = before.grows in omega arith;
-  done = λ p low has none. ⊎_elim
-      (λ (same : place ≡ p). let e = ap (distance_within g s corner) same in omega arith)
-      (λ (ne : place ≡ p → ⊥).
-      let e = gone.each p low in
-      let o = one_at_other place p ne in
-      let a = before.done p low has (omega arith) in
-      omega arith)
-      (cases_eq place p);
+  done = λ p low has none.
+      let e = gone.each p low in let a = before.done p low has in grind (arith, nat_tests);
   reached = λ more. ⊎_elim
       (λ (farther : far < d).
       let inside = gone.inside in
@@ -200,9 +182,9 @@ sets_all {g} {s} {words} {rest} {reach} before none = record {
 
 distance_on : (g : Grid) (site k p : ℕ) → is_site g k p ≡ true
     → distance g site (site_on g k p) ≡ distance_within g (spot_of g site) (corner_of g k) p
-unfolding distance is_site site_on
+unfolding distance site_on
 distance_on g site k p is =
-    let wide = ltb-true (column_at g k p) g.width (and_parts _ _ (and_parts _ _ is).1).1 in
+    let wide = (in_grid g k p is).3 in
     ap (λ x. distance_between g (spot_of g site) x (row g (site_on g k p)))
     (mod-mul-add (row_at g k p) g.width (column_at g k p) wide)
     ∙ ap (distance_between g (spot_of g site) (column_at g k p))
@@ -244,10 +226,6 @@ some_reached g site v {words} {reach} each in_sets far =
 
 -- ---- the reach fits into 32 bits
 
-apart_below : (round : Bool) (across around limit : ℕ) → across < limit → cond round (min across around) across < limit
-apart_below true across around limit l = omega arith
-apart_below false across around limit l = l
-
 near : (g : Grid) (i j : ℕ) → IsGrid g → i < sites g → j < sites g → distance g i j < 512
 unfolding distance
 near g i j sides inside there =
@@ -258,9 +236,7 @@ near g i j sides inside there =
     let b = mod_below j g.width (omega arith) in
     let c = div_below i g.width g.height (omega arith) (omega arith) in
     let d = div_below j g.width g.height (omega arith) (omega arith) in
-    let across = apart_below (joins g.edge) (abs_diff (column g i) (column g j))
-    (g.width - abs_diff (column g i) (column g j)) 256 (omega arith) in
-    omega arith
+    grind arith
 
 pub small_reach : (g : Grid) (site : ℕ) {words : ℕ → ℕ} {reach : ℕ} → IsGrid g → site < sites g → AreSites g words
     → IsReachedIn g (spot_of g site) words reach → reach < 2 ^ 32

@@ -6,7 +6,7 @@ use Rattle.sand_model.specs.Sand.{flow, one_at}
 use Rattle.sand_model.proofs.Flow.{flow_same, flow-add}
 use Rattle.sand_tiles.specs.declared.tile.Tile.{Tile}
 use Rattle.sand_tiles.specs.Places.{bit, height, had, around, Visits}
-use Rattle.sand_tiles.proofs.Around.{around_none, around_le}
+use Rattle.sand_tiles.proofs.Around.{around_none}
 use Rattle.sand_fronts.specs.declared.sides.Beside.{Beside}
 use Rattle.sand_fronts.specs.Tiling.{pitch, tile_of, place_of, over_north, over_south, over_west, over_east, to_west, to_east, on_tiles}
 use Rattle.sand_fronts.specs.Waves.{at_site, toppled, only, put, over_rim, IsBeside}
@@ -34,26 +34,14 @@ gained g k new b j inside ik beside fits blank =
     let p = place_of g j in
     let im = inner g j inside in
     let all = flow_on_tiles g (only k (bit new)) j blank inside in
-    let r1 = im.rows in let r2 = ik.rows in
     let n = north_rim g (bit new) k m p (omega arith) in
     let s = south_rim g (bit new) k m p (omega arith) in
     let e = east_rim g (bit new) k m p im ik in
     let w = west_rim g (bit new) k m p im ik in
-    let n' = ap (λ i. only i (over_south (bit new)) m p) beside.north in
-    let s' = ap (λ i. only i (over_north (bit new)) m p) beside.south in
-    let w' = ap (λ i. only i (over_east b.west_shift (bit new)) m p) beside.west
-    ∙ ap (λ i. only (to_west g k) (over_east i (bit new)) m p) beside.west_shift in
-    let e' = ap (λ i. only i (over_west b.east_shift (bit new)) m p) beside.east
-    ∙ ap (λ i. only (to_east g k) (over_west i (bit new)) m p) beside.east_shift in
-    omega arith
+    rw (beside.north, beside.south, beside.west, beside.east, beside.west_shift, beside.east_shift) (omega arith)
 
-around_same : (k m new p : ℕ) → p < 64 → m ≡ k → around (only k (bit new) m) p ≡ around (bit new) p
-around_same k m new p low e =
-    let a =
-    around_le (only k (bit new) m) (bit new) p low (λ q l. let s = only_same k m (bit new) q e in omega arith) in
-    let b =
-    around_le (bit new) (only k (bit new) m) p low (λ q l. let s = only_same k m (bit new) q e in omega arith) in
-    omega arith
+around_same : (k new p : ℕ) → around (only k (bit new) k) p ≡ around (bit new) p
+around_same k new p = ap (λ (f : ℕ → ℕ). around f p) (λ i q. only_same k k (bit new) q refl i)
 
 -- what a tile has before and after the places of the set `new` topple
 record Pays (t v : Tile) (free : ℕ) (new : ℕ → ℕ) : Type 0 where
@@ -77,8 +65,8 @@ pays_put : (free : ℕ → ℕ) (τ : ℕ → Tile) (k start new : ℕ) (t : Til
 pays_put free τ k start new t visits = cond_each (λ m x. Pays (τ m) x (free m) (only k (bit new) m)) τ k t
     (record {
       once = λ p l. let o = visits.once p l in let n = only_same k k (bit new) p refl in omega arith;
-      at_open = λ p l is. let o = visits.at_open p l is in let n = around_same k k new p l refl in omega arith;
-      modulo = λ p l. let o = visits.modulo p l in let n = around_same k k new p l refl in omega arith;
+      at_open = λ p l is. let o = visits.at_open p l is in let n = around_same k new p in omega arith;
+      modulo = λ p l. let o = visits.modulo p l in let n = around_same k new p in omega arith;
     })
     (λ m ne. pays_none (τ m) (free m) k m new ne)
 

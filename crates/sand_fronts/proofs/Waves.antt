@@ -1,6 +1,7 @@
 -- One step of a wave: a tile is visited, and the grains of its topplings reach all neighbours.
 use Rattle.std.proofs.Common.{ℕ, true, false, cond, ◌≡◌, ◌≢◌, ◌+◌, ◌-◌, ◌*◌, ◌%◌, ◌<◌, ◌≤◌, refl, sym, ◌∙◌, ap, arith, ⊎_elim}
-use Rattle.std.proofs.lemmas.Bool.{cases_Bool, cases_eq, eq-eqb, ne_eqb}
+use Rattle.std.proofs.lemmas.Bool.{cases_eq, eq-eqb, ne_eqb}
+use Rattle.std.proofs.lemmas.Bool.Decides.{nat_tests}
 use Rattle.sand_model.specs.Grid.{Grid, sites}
 use Rattle.sand_model.specs.Sand.{Stabilises, flow, one_at}
 use Rattle.sand_model.proofs.Flow.{flow_le, flow_same, flow-add}
@@ -13,7 +14,7 @@ use Rattle.sand_tiles.proofs.Around.{around_le}
 use Rattle.sand_fronts.specs.Tiling.{tile_of, place_of, is_site, site_on, on_tiles}
 use Rattle.sand_fronts.specs.Waves.{at_site, toppled, only, AreOpen, IsWave, Gains}
 use Rattle.sand_fronts.proofs.NeighboursOnTiles.{flow_on_tiles}
-use Rattle.sand_fronts.proofs.OnTiles.{place_below, there_again, at_on, on_tiles_blank, on_tiles_le, on_tiles_is, on_site, off_site, on_each}
+use Rattle.sand_fronts.proofs.OnTiles.{place_below, there_again, at_on, on_tiles_blank, on_tiles_le, on_tiles_is, on_site, off_site, on_each, height_low}
 
 pub only_same : (k m : ℕ) (f : ℕ → ℕ) (p : ℕ) → m ≡ k → only k f m p ≡ f p
 unfolding only
@@ -49,12 +50,11 @@ pub record IsUnderWay (g : Grid) (site : ℕ) (h : ℕ → ℕ) (τ : ℕ → Ti
       ≡ (h site + flow g (toppled g τ) site) % 4
   pub needed : (w : ℕ → ℕ) → Stabilises g h w → (j : ℕ) → j < sites g → toppled g τ j ≤ w j
 
-pub none_away : {g : Grid} {site : ℕ} {h : ℕ → ℕ} {τ : ℕ → Tile} → IsWave g site h τ
-    → IsUnderWay g site h τ (λ m p. 0)
-none_away {g} {site} {h} {τ} wave = record {
+pub arrived : {g : Grid} {site : ℕ} {h : ℕ → ℕ} {τ : ℕ → Tile} → IsUnderWay g site h τ (λ m p. 0) → IsWave g site h τ
+arrived {g} {site} {h} {τ} wave = record {
   inside = wave.inside;
   at_open = λ j l ne. let at = wave.at_open j l ne in omega arith;
-  at_held = let at = wave.at_held in omega arith;
+  at_held = let at = wave.at_held in let low = height_low (τ (tile_of g site)) (place_of g site) in omega arith;
   needed = wave.needed;
 }
 
@@ -67,21 +67,16 @@ free_at {g} {site} {h} {free} from j l ne =
 -- a free place is a site that is not held
 pub open_site : (g : Grid) (site : ℕ) (free : ℕ → ℕ) (k p : ℕ) → AreOpen g site free → p < 64 → bit (free k) p ≡ 1
     → (is_site g k p ≡ true) × (site_on g k p ≢ site)
+unfolding on_tiles
 open_site g site free k p open' low is =
-    let e = open' k p low in
-    ⊎_elim
-    (λ (yes : is_site g k p ≡ true).
-    let v = on_site g (λ j. 1 - one_at site j) k p yes in
-    (yes, λ (same : site_on g k p ≡ site). let one = one_at_same site in let a = ap (one_at site) same in omega arith))
-    (λ (no : is_site g k p ≡ false). let v = off_site g (λ j. 1 - one_at site j) k p no in absurd (omega arith))
-    (cases_Bool (is_site g k p))
+    let e = open' k p low in (grind (arith, nat_tests), λ (same : site_on g k p ≡ site). grind (arith, nat_tests))
 
 set_is : (g : Grid) (τ : ℕ → Tile) (j : ℕ) → toppled g τ j ≤ 1
 set_is g τ j = bit_le _ _
 
 -- a tile is ready for a visit
 pub wave_ready : {g : Grid} {site : ℕ} {h free : ℕ → ℕ} {τ : ℕ → Tile} (k start s : ℕ)
-    → IsStart g site h free → IsWave g site h τ
+    → IsStart g site h free → IsUnderWay g site h τ (λ m p. 0)
     → ((p : ℕ) → p < 64 → bit start p ≡ on_tiles g (λ j. s * one_at site j) k p) → toppled g τ site + s ≤ 1
     → IsReady (τ k) (free k) start
 wave_ready {g} {site} {h} {free} {τ} k start s from wave begins first =
@@ -112,14 +107,7 @@ wave_ready {g} {site} {h} {free} {τ} k start s from wave begins first =
       held = λ p l is. on_each g k p (λ (r : (ℕ → ℕ) → ℕ). bit (free k) p ≡ r (λ j. 1 - one_at site j)
           → bit start p ≡ r (λ j. s * one_at site j) → bit (τ k).wave p ≡ r (toppled g τ)
           → (bit (free k) p ≡ 0) × (bit (τ k).wave p ≡ 0)) l
-          (λ j m o b i. ⊎_elim
-          (λ (e : site ≡ j).
-          let one = ap (one_at site) (sym e) ∙ one_at_same site in
-          let two = ap (toppled g τ) e in
-          let s1 = ap (λ x. s * x) one in
-          (omega arith, omega arith))
-          (λ (ne : site ≡ j → ⊥). let z = ap (λ x. s * x) (one_at_other site j ne) in absurd (omega arith))
-          (cases_eq site j))
+          (λ j m o b i. (grind (arith, nat_tests), grind (arith, nat_tests)))
           (λ o b i. absurd (omega arith)) (open' k p l) (begins p l) (wave.inside k p l);
     }
 
@@ -128,20 +116,13 @@ pub newly : {g : Grid} {site : ℕ} {h free : ℕ → ℕ} {t u : Tile} {start n
     → ((q : ℕ) → q < 64 → bit start q ≡ on_tiles g (λ j. s * one_at site j) k q)
     → Visits t u (free k) start new → (m p : ℕ) → p < 64
     → only k (bit new) m p ≡ on_tiles g (at_site g (only k (bit new))) m p
+unfolding only on_tiles
 newly {g} {site} {h} {free} {t} {u} {start} {new} k s from begins visits m p low =
     on_tiles_is g (only k (bit new)) m p low (λ no.
-    ⊎_elim
-    (λ (here : m ≡ k).
-    let same = only_same k m (bit new) p here in
-    let no' : is_site g k p ≡ false = sym (ap (λ i. is_site g i p) here) ∙ no in
     let o = from.all_open k p low in
-    let o1 = off_site g (λ j. 1 - one_at site j) k p no' in
     let b = begins p low in
-    let b1 = off_site g (λ j. s * one_at site j) k p no' in
-    let h = visits.at_held p low (omega arith) in
-    omega arith)
-    (λ (there : m ≡ k → ⊥). only_other k m (bit new) p there)
-    (cases_eq m k))
+    let held = visits.at_held p low in
+    grind (arith, nat_tests))
 
 -- whatever stabilises the pile leaves no 4 in this tile
 calm : {g : Grid} {site : ℕ} {h free : ℕ → ℕ} {τ : ℕ → Tile} {away : ℕ → ℕ → ℕ} (k start s : ℕ) (w : ℕ → ℕ)
@@ -157,21 +138,11 @@ calm {g} {site} {h} {free} {τ} {away} k start s w from wave begins first stable
     record {
       start_in = λ p low.
           let b = begins p low in
-          let le = on_tiles_le g (λ j. s * one_at site j) (λ j. w j - toppled g τ j) k p low (λ j l.
-          ⊎_elim
-          (λ (e : site ≡ j).
-          let one = sym (ap (one_at site) e) ∙ one_at_same site in
-          let m = ap (λ x. s * x) one in
-          let u = ap (toppled g τ) e in
-          let w' = ap w e in
+          let more = least_action g h (toppled g τ) w site 1 inside stable below in
           let le' = below site inside in
-          ⊎_elim
-          (λ (z : toppled g τ site ≡ 0).
-          let more = least_action g h (toppled g τ) w site 1 inside stable below (omega arith) in omega arith)
-          (λ (nz : toppled g τ site ≡ 0 → ⊥). omega arith)
-          (cases_eq (toppled g τ site) 0))
-          (λ (ne : site ≡ j → ⊥). let m = ap (λ x. s * x) (one_at_other site j ne) in omega arith)
-          (cases_eq site j)) in
+          let some : s ≤ w site - toppled g τ site = grind arith in
+          let le = on_tiles_le g (λ j. s * one_at site j) (λ j. w j - toppled g τ j) k p low
+          (λ j l. let e = cases_eq site j in grind (arith, nat_tests)) in
           omega arith;
       at_most_three = λ p low is.
           let yes = open_site g site free k p open' low is in
@@ -198,24 +169,18 @@ pub needed_next : {g : Grid} {site : ℕ} {h free : ℕ → ℕ} {τ : ℕ → T
     → ((p : ℕ) → p < 64 → bit start p ≡ on_tiles g (λ j. s * one_at site j) k p) → toppled g τ site + s ≤ 1
     → Visits (τ k) t (free k) start new → (w : ℕ → ℕ) → Stabilises g h w → (j : ℕ) → j < sites g
     → toppled g τ j + at_site g (only k (bit new)) j ≤ w j
+unfolding only
 needed_next {g} {site} {h} {free} {τ} {away} {t} {k} {start} {new} s from wave begins first visits w stable j l =
+    let r = λ (i : ℕ). w i - toppled g τ i in
     let c = calm k start s w from wave begins first stable in
-    let m = tile_of g j in
-    let p = place_of g j in
     let le = wave.needed w stable j l in
-    ⊎_elim
-    (λ (here : m ≡ k).
-    let same = only_same k m (bit new) p here in
-    let least = visits.least (on_tiles g (λ i. w i - toppled g τ i) k) c p (place_below g j) in
-    let value =
-    sym (ap (λ i. on_tiles g (λ x. w x - toppled g τ x) i p) here) ∙ at_on g (λ i. w i - toppled g τ i) j l in
-    omega arith)
-    (λ (there : m ≡ k → ⊥). let other = only_other k m (bit new) p there in omega arith)
-    (cases_eq m k)
+    let least = visits.least (on_tiles g r k) c (place_of g j) (place_below g j) in
+    let value = at_on g r j l in
+    grind (arith, nat_tests)
 
 -- the grains under way arrive
 pub handed_over : {g : Grid} {site : ℕ} {h free : ℕ → ℕ} {τ σ : ℕ → Tile} {away : ℕ → ℕ → ℕ}
-    → IsStart g site h free → IsUnderWay g site h τ away → Gains free τ σ away → IsWave g site h σ
+    → IsStart g site h free → IsUnderWay g site h τ away → Gains free τ σ away → IsUnderWay g site h σ (λ m p. 0)
 handed_over {g} {site} {h} {free} {τ} {σ} {away} from wave gains =
     let same : (j : ℕ) → toppled g σ j ≡ toppled g τ j =
     λ j. gains.wave (tile_of g j) (place_of g j) (place_below g j) in

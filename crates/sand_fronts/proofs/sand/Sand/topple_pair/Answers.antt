@@ -33,9 +33,7 @@ written_all c = with_items_is c.args.self.now.tiles c.visit_two-new_one.new.tile
 
 visited : (c : After-hand_over-2) → AreVisited c.args.self.now.tiles.items (after c) c.args.j c.args.k
     c.index.result.now c.index-2.result.now c.visit_two-new_one.result.0 c.visit_two-new_one.result.1
-visited c = subst (λ us. AreVisited c.args.self.now.tiles.items us c.args.j c.args.k
-    c.index.result.now c.index-2.result.now c.visit_two-new_one.result.0 c.visit_two-new_one.result.1)
-    (sym (written_all c)) (rw (← c.as_mut_slice.ensures.value) c.visit_two-new_one.ensures.visited)
+visited c = rw (written_all c, ← c.as_mut_slice.ensures.value) c.visit_two-new_one.ensures.visited
 
 -- what both have handed over
 both : (c : After-hand_over-2) → Gets (free_of c.args.board.now) 8
