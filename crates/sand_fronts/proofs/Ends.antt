@@ -1,5 +1,5 @@
 -- How a wave begins, the heights after it, and when the next one follows.
-use Rattle.std.proofs.Common.{ℕ, ◌≡◌, ◌≢◌, ◌+◌, ◌-◌, ◌*◌, ◌<◌, ◌≤◌, sym, ◌∙◌, ap, arith}
+use Rattle.std.proofs.Common.{ℕ, ◌≡◌, ◌≢◌, ◌+◌, ◌-◌, ◌*◌, ◌<◌, ◌≤◌, sym, ◌∙◌, arith}
 use Rattle.std.proofs.lemmas.Bool.{cases_eq}
 use Rattle.std.proofs.lemmas.Bool.Decides.{nat_tests}
 use Rattle.sand_model.specs.Grid.{Grid, sites}
@@ -64,8 +64,6 @@ pub record Leaves (g : Grid) (site : ℕ) (h : ℕ → ℕ) (τ : ℕ → Tile) 
 pub wave_balance : {g : Grid} {site : ℕ} {h : ℕ → ℕ} {τ : ℕ → Tile} {k : ℕ → ℕ} → HasPassed g site h τ → Leaves g site h τ k
     → (j : ℕ) → j < sites g → k j + 4 * toppled g τ j ≡ h j + flow g (toppled g τ) j
 wave_balance {g} {site} {h} {τ} {k} past leaves j l =
-    let started = past.started in
-    let held = leaves.held in
     let at = past.wave.at_open j l in
     let none = past.none_due j in
     let others = leaves.others j l in
@@ -120,12 +118,9 @@ pub four_again : {g : Grid} {site : ℕ} {h : ℕ → ℕ} {τ : ℕ → Tile} (
     → i < sites g → i ≢ site → 1 ≤ toppled g τ i → flow g (toppled g τ) site ≡ 4
 four_again {g} {site} {h} {τ} i past empty li ni some =
     let inside = past.inside in
-    let started = past.started in
-    let four = past.four in
     let t = toppled g τ in
     let most = flow_le g t (λ j. 1) (λ j l. bit_le _ _) site inside in
     let ones = flow_ones g site in
-    let at_held = past.wave.at_held in
     let alone : flow g t site ≡ 0 → Stabilises g h (one_at site) = λ none. record {
       at_most_three = λ j l.
           let less = flow_le g (one_at site) t (λ m x. one_at_le t site m (omega arith)) j l in

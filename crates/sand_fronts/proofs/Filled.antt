@@ -1,5 +1,5 @@
 -- Tiles filled with a number for each site.
-use Rattle.std.proofs.Common.{ℕ, zero, suc, Bool, true, false, cond, List, ◌∷◌, [], ◌++◌, length, get_or, Some, None, ◌≡◌, ◌+◌, ◌-◌, ◌*◌, ◌/◌, ◌%◌, ◌^◌, ◌<◌, ◌≤◌, refl, sym, ◌∙◌, ap, subst, arith, ⊎_elim}
+use Rattle.std.proofs.Common.{ℕ, zero, suc, Bool, true, false, cond, List, ◌∷◌, [], ◌++◌, length, get_or, Some, None, ◌≡◌, ◌+◌, ◌-◌, ◌*◌, ◌%◌, ◌^◌, ◌<◌, ◌≤◌, refl, sym, ◌∙◌, ap, subst, arith, ⊎_elim}
 use Rattle.std.specs.Prelude.{bit_or}
 use Rattle.std.proofs.lemmas.Bool.{cases_lt}
 use Rattle.std.proofs.lemmas.Bool.Decides.{nat_tests}
@@ -13,7 +13,7 @@ use Rattle.sand_tiles.specs.Places.{bit, number, had}
 use Rattle.sand_tiles.proofs.Bits.{apart, bit_le, bit_none}
 use Rattle.sand_tiles.proofs.Moves.{bit_shl, bit_shl_low}
 use Rattle.sand_fronts.specs.declared.reach.Spot.{Spot}
-use Rattle.sand_fronts.specs.Tiling.{pitch, tiles, row_at, column_at, is_site, site_on, on_tiles}
+use Rattle.sand_fronts.specs.Tiling.{tiles, row_at, column_at, is_site, site_on, on_tiles}
 use Rattle.sand_fronts.specs.Filling.{Tells, IsFilled, IsInner}
 use Rattle.sand_fronts.proofs.OnTiles.{in_grid, on_site, off_site, on_below, on_place}
 use Rattle.sand_fronts.proofs.Boards.{tile_inside}
@@ -142,5 +142,4 @@ full_word p low = bit_at_ones 64 p low
 pub inner_site : (g : Grid) (k p : ℕ) → IsInner g k → p < 64 → is_site g k p ≡ true
 unfolding is_site
 inner_site g k p inner low =
-    let above = inner.above in let before = inner.before in let below = inner.below in let after = inner.after in
     grind (arith, nat_tests)

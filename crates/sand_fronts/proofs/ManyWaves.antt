@@ -4,7 +4,7 @@ use Rattle.std.proofs.Math.Nat.{mul-le-mul_right}
 use Rattle.std.proofs.lemmas.Bool.{cases_eq, eq-eqb, ne_eqb, and_parts, eqb-true, leb-true, leb-false}
 use Rattle.std.proofs.lemmas.Bool.Decides.{nat_tests}
 use Rattle.sand_model.specs.Grid.{Grid, IsGrid, sites, missing}
-use Rattle.sand_model.specs.Sand.{IsToppled, IsSettled, IsUnderway, flow, one_at, topplings, lost, weight, grain_weight, sum_below}
+use Rattle.sand_model.specs.Sand.{IsToppled, IsSettled, flow, one_at, topplings, lost, weight, grain_weight, sum_below}
 use Rattle.sand_model.specs.Underway.{Advances}
 use Rattle.sand_model.proofs.Flow.{flow_le}
 use Rattle.sand_model.proofs.Sandpile.{flow_ones, weight_after}
@@ -42,15 +42,14 @@ left_leaves : {g : Grid} {site : ℕ} {h : ℕ → ℕ} {τ : ℕ → Tile} → 
 unfolding left
 left_leaves {g} {site} {h} {τ} past =
     let x = flow g (toppled g τ) site - heights_on g τ site in
-    let four = past.four in
     record {
       others = λ j l ne. let o = ap (λ y. x * y) (one_at_other site j (λ e. ne (sym e))) in omega arith;
-      held = let o = ap (λ y. x * y) (one_at_same site) in let at = past.wave.at_held in omega arith;
+      held = let o = ap (λ y. x * y) (one_at_same site) in omega arith;
     }
 
 left_held : {g : Grid} {site : ℕ} {h : ℕ → ℕ} {τ : ℕ → Tile} → HasPassed g site h τ
     → left g site τ site ≡ flow g (toppled g τ) site
-left_held past = let four = past.four in let l = (left_leaves past).held in omega arith
+left_held past = let l = (left_leaves past).held in omega arith
 
 mul_le : (x y z : ℕ) → x ≤ y → x * z ≤ y * z
 mul_le x y z le = mul-le-mul_right z le
@@ -75,7 +74,6 @@ alone_rests {g} {site} {h} {τ} past few back =
     let done : IsToppled g h t k = record { balance = balance } in
     let light = weight_after g h t k done in
     let at = left_held past in
-    let four = past.four in
     let inside = past.inside in
     let started = past.started in
     let part = at_most_sum_below (sites g) t site inside in
@@ -108,8 +106,6 @@ held_has : {g : Grid} {site : ℕ} {h : ℕ → ℕ} {τ : ℕ → Tile} (more :
 held_has {g} {site} {h} {τ} more past test =
     let t = toppled g τ in
     let inside = past.inside in
-    let four = past.four in
-    let at = past.wave.at_held in
     let o = one_at_same site in
     let most = flow_le g t (λ j. 1) (λ j l. bit_le (τ (tile_of g j)).wave (place_of g j)) site inside in
     let ones = flow_ones g site in
@@ -192,7 +188,6 @@ waves_more {g} {site} more {τ} {σ} {us} {vs} {c} d' {e'} inside waves whole co
       started = started;
       none_due = λ j. whole.none_due (tile_of g j) (place_of g j) (place_below g j);
     } in
-    let four = past.four in
     let test' : more ≡ (ltb 1 (topplings g t) && eqb (heights_on g ω site) 0) =
     test ∙ ap (λ x. ltb 1 (topplings g t) && eqb x 0) (same site) in
     let has = held_has more past test' in
@@ -228,7 +223,7 @@ waves_more {g} {site} more {τ} {σ} {us} {vs} {c} d' {e'} inside waves whole co
             omega arith;
       },
       omega arith,
-      (let a = next.weight_pays in omega arith),
+      (omega arith),
     )
 
 pub wave_lost : {g : Grid} {site : ℕ} {h : ℕ → ℕ} (ν : ℕ → Tile) {τ : ℕ → Tile} → AreOutside g ν → IsWave g site h τ
@@ -279,7 +274,6 @@ few_topplings_yet {g} {site} {more} {τ} {σ} {c} {d} sides waves =
     let limit = sites_limit g sides in
     let heavy = weight_bound g h sides in
     let none = sum_below-zero (sites g) in
-    let pays = waves.advances.weight_pays in
     omega arith
 
 pub few_counted : {g : Grid} {site : ℕ} {more : Bool} {τ σ : ℕ → Tile} {c d : ℕ → Count} (m p : ℕ)

@@ -1,5 +1,5 @@
 -- Numbers by site, read by tile and place.
-use Rattle.std.proofs.Common.{ℕ, true, false, cond, ◌⊎◌, ◌≡◌, ◌+◌, ◌*◌, ◌/◌, ◌%◌, ◌<◌, ◌≤◌, refl, sym, ◌∙◌, ap, subst, arith, ⊎_elim}
+use Rattle.std.proofs.Common.{ℕ, true, false, cond, ◌≡◌, ◌+◌, ◌*◌, ◌/◌, ◌%◌, ◌<◌, ◌≤◌, refl, sym, ◌∙◌, ap, subst, arith, ⊎_elim}
 use Rattle.std.proofs.lemmas.Bool.{cases_Bool}
 use Rattle.std.proofs.lemmas.Bool.Decides.{nat_tests}
 use Rattle.std.proofs.lemmas.Nat.{div-mul-add, mod-mul-add, div-add-mod', mul-add-lt, div_below}
@@ -51,7 +51,6 @@ unfolding tile_of place_of site_on
 there_again g k p low is =
     let w = g.width in
     let bounds = in_grid g k p is in
-    let two = bounds.0 in let one = bounds.1 in
     let parts = div-add-mod' k (pitch g) in
     let r = row_at g k p in
     let c = column_at g k p in

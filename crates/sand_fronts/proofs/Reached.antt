@@ -1,5 +1,5 @@
 -- How far a drop has reached.
-use Rattle.std.proofs.Common.{ℕ, Bool, true, false, cond, eqb, ltb, refl, inl, inr, ◌≡◌, ◌≢◌, ◌⊎◌, ◌+◌, ◌-◌, ◌*◌, ◌/◌, ◌%◌, ◌^◌, ◌<◌, ◌≤◌, min, max, sym, ◌∙◌, ap, arith, ⊎_elim, subst}
+use Rattle.std.proofs.Common.{ℕ, true, cond, eqb, ltb, refl, inl, inr, ◌≡◌, ◌≢◌, ◌⊎◌, ◌+◌, ◌*◌, ◌/◌, ◌%◌, ◌^◌, ◌<◌, ◌≤◌, min, max, sym, ◌∙◌, ap, arith, ⊎_elim, subst}
 use Rattle.std.specs.Prelude.{bit_xor}
 use Rattle.std.specs.Int.{abs_diff, trailing_zeros}
 use Rattle.std.proofs.Common.{w64}
@@ -60,7 +60,6 @@ taken rest one some fits is =
       each = λ p low.
           let h = half rest one p in
           let b = both_le rest one p in
-          let w = first.1 in
           let e = is p low in
           grind (arith, nat_tests);
     }
@@ -99,9 +98,8 @@ reads_more {g} {s} {corner} {set} {rest} {next} {reach} {far} {place} d now befo
   reached = λ more. ⊎_elim
       (λ (farther : far < d).
       let inside = gone.inside in
-      let was = gone.was in
       (place, inside, let a = before.within_set place inside in let b = bit_le set place in omega arith, omega arith))
-      (λ (not : d ≤ far). let old = before.reached (omega arith) in (old.0, old.1, old.2, let e = old.3 in omega arith))
+      (λ (not : d ≤ far). let old = before.reached (omega arith) in (old.0, old.1, old.2, omega arith))
       (cases_lt far d);
 }
 
@@ -137,7 +135,6 @@ pub sets_more : {g : Grid} {s : Spot} {words rest : ℕ → ℕ} (next : ℕ →
     → SetsRead g s words rest reach → IsReachedFrom g s (corner_of g k) set reach far → set ≡ rest k
     → ((m : ℕ) → next m ≡ cond (eqb m k) 0 (rest m)) → SetsRead g s words next far
 sets_more {g} {s} {words} {rest} next k {set} {reach} {far} before one is each =
-    let grows = one.grows in
     let whole : (p : ℕ) → (bit set p ≡ 0) ⊎ (bit set p ≡ bit (words k) p) =
     λ p. ⊎_elim
     (λ (none : rest k ≡ 0). inl (ap (λ w. bit w p) (is ∙ none) ∙ bit_none p))
@@ -160,14 +157,14 @@ sets_more {g} {s} {words} {rest} next k {set} {reach} {far} before one is each =
             now.0,
             now.1,
             ⊎_elim
-                (λ (z : bit set now.0 ≡ 0). let o = now.2 in absurd (omega arith))
+                (λ (z : bit set now.0 ≡ 0). absurd (omega arith))
                 (λ (same : bit set now.0 ≡ bit (words k) now.0). sym same ∙ now.2)
                 (whole now.0),
             now.3,
           ))
           (λ (not : far ≤ reach).
           let old = before.reached (omega arith) in
-          (old.0, old.1, old.2, old.3, let e = old.4 in omega arith))
+          (old.0, old.1, old.2, old.3, omega arith))
           (cases_lt reach far);
     }
 
@@ -221,7 +218,7 @@ some_reached g site v {words} {reach} each in_sets far =
     (λ (some : 0 < v j). (j, l, some, distance_at g site j m p l tile place ∙ one.4))
     (λ (none : v j ≤ 0). absurd (let z = ap one_if (le-ltb 0 (v j) none) in let has = one.3 in omega arith))
     (cases_lt 0 (v j)))
-    (λ no is. absurd (let has = one.3 in omega arith))
+    (λ no is. absurd (omega arith))
     (each m p one.2)
 
 -- ---- the reach fits into 32 bits
@@ -229,9 +226,6 @@ some_reached g site v {words} {reach} each in_sets far =
 near : (g : Grid) (i j : ℕ) → IsGrid g → i < sites g → j < sites g → distance g i j < 512
 unfolding distance
 near g i j sides inside there =
-    let some = sides.some_width in
-    let wide = sides.width_limit in
-    let high = sides.height_limit in
     let a = mod_below i g.width (omega arith) in
     let b = mod_below j g.width (omega arith) in
     let c = div_below i g.width g.height (omega arith) (omega arith) in
@@ -247,7 +241,6 @@ small_reach g site {words} {reach} sides inside at in_sets = ⊎_elim
     let there = there_again g one.0 one.1 one.2 is in
     let n = near g site (site_on g one.0 one.1) sides inside there.0 in
     let d = distance_on g site one.0 one.1 is in
-    let e = one.4 in
     omega arith)
     (λ (none : reach ≤ 0). omega arith)
     (cases_lt 0 reach)

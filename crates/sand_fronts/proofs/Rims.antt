@@ -1,15 +1,15 @@
 -- The grains that leave a tile over its rim, by the tile that they leave and by the tile that they reach.
-use Rattle.std.proofs.Common.{ℕ, true, false, cond, eqb, ltb, ◌&&◌, ◌≡◌, ◌+◌, ◌-◌, ◌*◌, ◌/◌, ◌%◌, ◌^◌, ◌<◌, ◌≤◌, refl, ◌∙◌, ap, arith}
+use Rattle.std.proofs.Common.{ℕ, cond, eqb, ◌≡◌, ◌+◌, ◌-◌, ◌*◌, ◌/◌, ◌%◌, ◌^◌, ◌<◌, ◌≤◌, refl, ◌∙◌, ap, arith}
 use Rattle.std.specs.Prelude.{bit_and}
 use Rattle.std.specs.Int.{bit_at}
 use Rattle.std.proofs.lemmas.Bool.{agree_below_at}
 use Rattle.std.proofs.lemmas.Bool.Decides.{nat_tests}
 use Rattle.std.proofs.lemmas.Nat.{mod-mul-add, div-add-mod', mod_below}
 use Rattle.std.proofs.lemmas.Nat.Bits.{bit_at-lt}
-use Rattle.sand_model.specs.Grid.{Grid, joins}
+use Rattle.sand_model.specs.Grid.{Grid}
 use Rattle.sand_tiles.specs.Places.{bit}
 use Rattle.sand_tiles.proofs.Moves.{bit_shr, bit_shl, bit_shl_low, bit_above, masked_out, masked_in}
-use Rattle.sand_fronts.specs.Tiling.{across, pitch, over_north, over_south, over_west, over_east, to_west, to_east, shift_west, shift_east, seam_west, seam_east}
+use Rattle.sand_fronts.specs.Tiling.{across, pitch, over_north, over_south, over_west, over_east, to_west, to_east, shift_west, shift_east}
 use Rattle.sand_fronts.specs.Waves.{only}
 
 -- ---- the words that are handed over
@@ -88,7 +88,6 @@ west_then_east : (g : Grid) (m k : ℕ) → IsInner g m → IsInner g k → to_w
     → (m ≡ to_east g k) × (shift_west g m ≡ shift_east g k)
 unfolding to_west to_east shift_west shift_east
 west_then_east g m k im ik to =
-    let m1 = im.first in let m2 = im.last in let k1 = ik.first in let k2 = ik.last in let m3 = im.rows in
     let far = column_more g m (across g - 1) in
     let near = column_more g k 1 in
     (grind (arith, nat_tests), grind (arith, nat_tests))
@@ -97,7 +96,6 @@ east_then_west : (g : Grid) (m k : ℕ) → IsInner g m → IsInner g k → to_e
     → (m ≡ to_west g k) × (shift_east g m ≡ shift_west g k)
 unfolding to_west to_east shift_west shift_east
 east_then_west g m k im ik to =
-    let m1 = im.first in let m2 = im.last in let k1 = ik.first in let k2 = ik.last in let m3 = im.rows in
     let far = column_less g m (across g - 1) in
     let near = column_more g m 1 in
     (grind (arith, nat_tests), grind (arith, nat_tests))

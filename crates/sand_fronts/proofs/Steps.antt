@@ -8,7 +8,7 @@ use Rattle.sand_tiles.specs.declared.tile.Tile.{Tile}
 use Rattle.sand_tiles.specs.Places.{bit, height, had, around, Visits}
 use Rattle.sand_tiles.proofs.Around.{around_none}
 use Rattle.sand_fronts.specs.declared.sides.Beside.{Beside}
-use Rattle.sand_fronts.specs.Tiling.{pitch, tile_of, place_of, over_north, over_south, over_west, over_east, to_west, to_east, on_tiles}
+use Rattle.sand_fronts.specs.Tiling.{pitch, tile_of, place_of, on_tiles}
 use Rattle.sand_fronts.specs.Waves.{at_site, toppled, only, put, over_rim, IsBeside}
 use Rattle.sand_fronts.proofs.NeighboursOnTiles.{tile, place, IsBlank, parts_of, flow_on_tiles}
 use Rattle.sand_fronts.proofs.OnTiles.{place_below, on_tiles_blank, on_sum, height_low}
@@ -103,7 +103,6 @@ visited_wave {g} {site} {h} {free} {τ} {away} {t} {k} {start} {new} {b} s more 
             let r = sums (tile_of g j) (place_of g j) in
             omega arith;
         at_held =
-            let at = wave.at_held in
             let f = flows site from.inside in
             let x = (pays (tile_of g site)).modulo (place_of g site) (place_below g site) in
             let r = sums (tile_of g site) (place_of g site) in

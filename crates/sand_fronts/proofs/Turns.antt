@@ -1,5 +1,5 @@
 -- The turns of a wave: each waiting tile is visited.
-use Rattle.std.proofs.Common.{ℕ, Bool, true, false, eqb, ltb, cond, not, ◌&&◌, inl, inr, ◌⊎◌, List, [], ◌∷◌, ◌≡◌, ◌≢◌, ◌+◌, ◌-◌, ◌*◌, ◌%◌, ◌^◌, ◌<◌, ◌≤◌, length, drop, get_or, add-one, drop-cons, refl, sym, ◌∙◌, ap, arith, ⊎_elim}
+use Rattle.std.proofs.Common.{ℕ, Bool, true, eqb, ltb, cond, not, inl, inr, ◌⊎◌, List, [], ◌∷◌, ◌≡◌, ◌≢◌, ◌+◌, ◌-◌, ◌*◌, ◌%◌, ◌^◌, ◌<◌, ◌≤◌, length, drop, get_or, add-one, drop-cons, refl, sym, ◌∙◌, ap, arith, ⊎_elim}
 use Rattle.std.specs.Int.{w64, trailing_zeros}
 use Rattle.std.proofs.lemmas.Bool.{cases_lt, ltb-true, ltb-false, eqb-false, eq-eqb, ne_eqb, and_parts, and_right, not-true}
 use Rattle.std.proofs.lemmas.Bool.Decides.{nat_tests}
@@ -66,7 +66,6 @@ has_turn {g} {site} {h} {free} {τ} {n} {all} k board turn wait =
     let f = bit_le (free k) p in
     let yes = open_site g site free k p turn.from.all_open low.0 (omega arith) in
     let t = there_again g k p low.0 yes.0 in
-    let started = turn.started in
     record {
       j = site_on g k p;
       inside = t.0;
@@ -88,13 +87,12 @@ turn_visit {g} {site} {h} {free} {τ} {away} {s} {n} {k} {start} {new} {t}
     {b} more j turn begins beside inside here one own
     visits fits sums =
     let u : ℕ → ℕ = at_site g (only k (bit new)) in
-    let next = visited_wave s more turn.from turn.wave begins (let e = turn.started in omega arith)
+    let next = visited_wave s more turn.from turn.wave begins (omega arith)
     (rw here at (inner g j inside)) beside visits fits sums in
     let all = sum_below_same (sites g) (toppled g (put k t τ)) (λ i. toppled g τ i + u i) (λ i m. next.1 i)
     ∙ sum_below-add (sites g) (toppled g τ) u in
     let part = at_most_sum_below (sites g) u j inside in
     let topples : u j ≡ 1 = only_same k (tile_of g j) (bit new) (place_of g j) here ∙ one in
-    let before = turn.started in
     let count = turn.count in
     let once = next.1 site in
     let few = bit_le (put k t τ (tile_of g site)).wave (place_of g site) in
@@ -121,7 +119,6 @@ turn_one {g} {site} {h} {free} {τ} {away} {n} {k} {new} {t} more turn has visit
     let once = visits.once p low in
     let none = ap (λ x. bit x p) visits.none_due ∙ bit_none p in
     let l = height_low t p in
-    let d = has.due in
     let few = bit_le new p in
     turn_visit more has.j turn (starts_none g site k) has.tile.each has.inside has.here (omega arith) (omega arith)
     visits fits sums

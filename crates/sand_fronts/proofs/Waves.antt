@@ -1,12 +1,12 @@
 -- One step of a wave: a tile is visited, and the grains of its topplings reach all neighbours.
-use Rattle.std.proofs.Common.{ℕ, true, false, cond, ◌≡◌, ◌≢◌, ◌+◌, ◌-◌, ◌*◌, ◌%◌, ◌<◌, ◌≤◌, refl, sym, ◌∙◌, ap, arith, ⊎_elim}
+use Rattle.std.proofs.Common.{ℕ, true, cond, ◌≡◌, ◌≢◌, ◌+◌, ◌-◌, ◌*◌, ◌%◌, ◌<◌, ◌≤◌, refl, sym, ◌∙◌, ap, arith}
 use Rattle.std.proofs.lemmas.Bool.{cases_eq, eq-eqb, ne_eqb}
 use Rattle.std.proofs.lemmas.Bool.Decides.{nat_tests}
 use Rattle.sand_model.specs.Grid.{Grid, sites}
 use Rattle.sand_model.specs.Sand.{Stabilises, flow, one_at}
 use Rattle.sand_model.proofs.Flow.{flow_le, flow_same, flow-add}
 use Rattle.sand_model.proofs.Sandpile.{flow_ones, least_action}
-use Rattle.sand_model.proofs.SumsBelow.{one_at_same, one_at_other}
+use Rattle.sand_model.proofs.SumsBelow.{one_at_other}
 use Rattle.sand_tiles.specs.declared.tile.Tile.{Tile}
 use Rattle.sand_tiles.specs.Places.{bit, height, had, around, unused, IsReady, Calms, Visits}
 use Rattle.sand_tiles.proofs.Bits.{bit_le}
@@ -14,7 +14,7 @@ use Rattle.sand_tiles.proofs.Around.{around_le}
 use Rattle.sand_fronts.specs.Tiling.{tile_of, place_of, is_site, site_on, on_tiles}
 use Rattle.sand_fronts.specs.Waves.{at_site, toppled, only, AreOpen, IsWave, Gains}
 use Rattle.sand_fronts.proofs.NeighboursOnTiles.{flow_on_tiles}
-use Rattle.sand_fronts.proofs.OnTiles.{place_below, there_again, at_on, on_tiles_blank, on_tiles_le, on_tiles_is, on_site, off_site, on_each, height_low}
+use Rattle.sand_fronts.proofs.OnTiles.{place_below, there_again, at_on, on_tiles_blank, on_tiles_le, on_tiles_is, on_site, on_each, height_low}
 
 pub only_same : (k m : ℕ) (f : ℕ → ℕ) (p : ℕ) → m ≡ k → only k f m p ≡ f p
 unfolding only
@@ -54,7 +54,7 @@ pub arrived : {g : Grid} {site : ℕ} {h : ℕ → ℕ} {τ : ℕ → Tile} → 
 arrived {g} {site} {h} {τ} wave = record {
   inside = wave.inside;
   at_open = λ j l ne. let at = wave.at_open j l ne in omega arith;
-  at_held = let at = wave.at_held in let low = height_low (τ (tile_of g site)) (place_of g site) in omega arith;
+  at_held = let low = height_low (τ (tile_of g site)) (place_of g site) in omega arith;
   needed = wave.needed;
 }
 
@@ -132,7 +132,6 @@ calm : {g : Grid} {site : ℕ} {h free : ℕ → ℕ} {τ : ℕ → Tile} {away 
     → Calms (τ k) (free k) start (on_tiles g (λ j. w j - toppled g τ j) k)
 calm {g} {site} {h} {free} {τ} {away} k start s w from wave begins first stable =
     let inside = from.inside in
-    let high = from.high in
     let open' = from.all_open in
     let below = wave.needed w stable in
     record {
@@ -199,7 +198,6 @@ handed_over {g} {site} {h} {free} {τ} {σ} {away} from wave gains =
           let to = gains.each (tile_of g j) (place_of g j) (place_below g j) (free_at from j l ne) (omega arith) in
           omega arith;
       at_held =
-          let at = wave.at_held in
           let f = flows site from.inside in
           let to = gains.modulo (tile_of g site) (place_of g site) (place_below g site) in
           omega arith;

@@ -1,4 +1,4 @@
-use Rattle.std.proofs.Common.{ℕ, ◌≡◌, ◌≢◌, ◌+◌, ◌*◌, ◌<◌, ◌≤◌, ◌∙◌, refl, sym, ap, inl, inr, ⊎_elim, length, take, drop, get_or, arith}
+use Rattle.std.proofs.Common.{ℕ, ◌≡◌, ◌≢◌, ◌+◌, ◌*◌, ◌<◌, ◌∙◌, refl, sym, ap, length, drop, arith}
 use Rattle.std.proofs.Math.ListN.{set}
 use Rattle.std.proofs.lemmas.Bool.{ne_eqb}
 use Rattle.std.proofs.lemmas.List.{length-set, length-take-le, drop_all, drop-set-lt, get_or-take}
@@ -13,7 +13,7 @@ use Rattle.sand_fronts.proofs.OnTiles.{place_below}
 use Rattle.sand_fronts.proofs.Gained.{tile_read}
 use Rattle.sand_fronts.proofs.OneSite.{start_of}
 use Rattle.sand_fronts.proofs.Waves.{arrived, wave_ready}
-use Rattle.sand_fronts.proofs.Turns.{HasTurn, IsTurn, turn_none, turn_first, turn_one, turn_two, turn_over, next_one, next_two, first_kept, keep_one, kept_on, none_wait, few_topplings, few_listed, none_left}
+use Rattle.sand_fronts.proofs.Turns.{HasTurn, turn_none, turn_first, turn_one, turn_two, turn_over, next_one, next_two, first_kept, keep_one, kept_on, none_wait, few_topplings, few_listed, none_left}
 use Rattle.sand_fronts.proofs.sand.topple_turns.Goals.{After-set_of, After-item-k, After-item-other}
 use Rattle.sand_fronts.proofs.sand.topple_turns.Goals as goal
 

@@ -1,4 +1,4 @@
-use Rattle.std.proofs.Common.{List, cond, eqb, ap, sym, subst, ◌≡◌, ◌+◌, ◌<◌, ◌∙◌, length, refl, arith}
+use Rattle.std.proofs.Common.{List, cond, eqb, ap, sym, ◌≡◌, ◌+◌, ◌<◌, ◌∙◌, length, refl, arith}
 use Rattle.std.specs.Vec.{with_items}
 use Rattle.std.proofs.Math.ListN.{set}
 use Rattle.std.proofs.lemmas.List.{length-set, get_or_read, with_items_is}
