@@ -64,9 +64,6 @@ pub record Leaves (g : Grid) (site : ℕ) (h : ℕ → ℕ) (τ : ℕ → Tile) 
 pub wave_balance : {g : Grid} {site : ℕ} {h : ℕ → ℕ} {τ : ℕ → Tile} {k : ℕ → ℕ} → HasPassed g site h τ → Leaves g site h τ k
     → (j : ℕ) → j < sites g → k j + 4 * toppled g τ j ≡ h j + flow g (toppled g τ) j
 wave_balance {g} {site} {h} {τ} {k} past leaves j l =
-    let at = past.wave.at_open j l in
-    let none = past.none_due j in
-    let others = leaves.others j l in
     let either = cases_eq j site in
     grind arith
 
@@ -85,27 +82,18 @@ wave_advances {g} {site} {h} {τ} {k} u v past leaves sums =
     record {
       underway = λ s before. record {
         toppled = record {
-          balance = λ j l.
-              let a = before.toppled.balance j l in
-              let b = balance j l in
-              let c = sums j l in
-              let d = flows j l in
-              omega arith;
+          balance = λ j l. let b = balance j l in let d = flows j l in omega arith;
         };
         bounded = λ w stable j l.
             let below = before.bounded w stable in
             let rest : Stabilises g h (λ i. w i - u i) = record {
               at_most_three = λ i m.
-                  let a = before.toppled.balance i m in
-                  let b = stable.at_most_three i m in
                   let c = below i m in
-                  let d = flow_same g (λ n. u n + (w n - u n)) w (λ n x. let y = below n x in omega arith) i m in
+                  let d = flow_same g (λ n. u n + (w n - u n)) w (λ n x. omega arith) i m in
                   let e = flow-add g u (λ n. w n - u n) i in
                   omega arith;
             } in
             let n = past.wave.needed (λ i. w i - u i) rest j l in
-            let c = below j l in
-            let d = sums j l in
             omega arith;
       };
       weight_pays = let w = weight_after g h t k toppled' in omega arith;
@@ -127,9 +115,6 @@ four_again {g} {site} {h} {τ} i past empty li ni some =
           let turned = flow-one_at g site j inside l in
           let few = λ (one : 1 ≤ t j). flow_le g (λ m. one_at m j) t
           (λ m x. let c = one_at_comm m j in let o = one_at_le t j m one in omega arith) site inside in
-          let at = past.wave.at_open j l in
-          let low = past.low j l in
-          let due = past.none_due j in
           let three = height_low (τ (tile_of g j)) (place_of g j) in
           let either = cases_eq j site in
           grind (arith, nat_tests);

@@ -128,7 +128,6 @@ number_had t p clear = let z = ap (λ w. bit w p) clear ∙ bit_none p in omega 
 pub low_of : (g : Grid) (k : ℕ) (t : Tile) → ((p : ℕ) → p < 64 → number t p ≡ on_tiles g (λ j. 1) k p)
     → (p : ℕ) → p < 64 → bit t.low p ≡ on_tiles g (λ j. 1) k p
 low_of g k t is p low =
-    let e = is p low in
     let few = on_below g (λ j. 1) k p 1 low (λ j l. omega arith) in
     let one = bit_le t.low p in
     omega arith

@@ -79,8 +79,6 @@ alone_rests {g} {site} {h} {τ} past few back =
     let part = at_most_sum_below (sites g) t site inside in
     let others = others_none g site t inside started few in
     let heavy = sum_below_le (sites g) (λ i. h i * grain_weight g i) (λ i. k i * grain_weight g i) (λ j l.
-    let a = balance j l in
-    let z = others j l in
     let either = cases_eq j site in
     let more : h j ≤ k j = grind arith in
     mul_le (h j) (k j) (grain_weight g j) more) in
@@ -154,9 +152,6 @@ wave_counts g {us} {vs} c {d} {e} counts moved clear j =
     let p = place_of g j in
     let low = place_below g j in
     let m = tile_of g j in
-    let a = counts m p low in
-    let b = moved.each m p low in
-    let z = clear m p low in
     omega arith
 
 pub waves_more : {g : Grid} {site : ℕ} (more : Bool) {τ σ : ℕ → Tile} {us vs : List Tile} {c : ℕ → Count} (d' : Counts) {e' : Counts}
@@ -215,10 +210,6 @@ waves_more {g} {site} more {τ} {σ} {us} {vs} {c} d' {e'} inside waves whole co
           grains_fall = let a = next.grains_fall in let b = waves.advances.grains_fall in omega arith;
         };
         counts = λ m p l.
-            let a = waves.counts m p l in
-            let b = counts.each m p l in
-            let z = clear m p l in
-            let i = whole.wave.inside m p l in
             let s = on_sum g (grown_on g c d) t (grown_on g c e) m p l sums in
             omega arith;
       },
@@ -283,7 +274,6 @@ few_counted {g} {site} {more} {τ} {σ} {c} {d} m p sides waves low few =
     let all = few_topplings_yet sides waves in
     let here = on_below g (grown_on g c d) m p (2 ^ 32) low
     (λ j l. let part = at_most_sum_below (sites g) (grown_on g c d) j l in omega arith) in
-    let e = waves.counts m p low in
     omega arith
 
 pub waves_end : {g : Grid} {site : ℕ} {τ σ : ℕ → Tile} {c d : ℕ → Count} → AreWaves g site false τ σ c d

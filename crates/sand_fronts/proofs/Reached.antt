@@ -60,14 +60,13 @@ taken rest one some fits is =
       each = λ p low.
           let h = half rest one p in
           let b = both_le rest one p in
-          let e = is p low in
           grind (arith, nat_tests);
     }
 
 pub fewer_left : {rest next place : ℕ} → IsTaken rest next place → sum_below 64 (bit next) < sum_below 64 (bit rest)
 fewer_left {rest} {next} {place} gone =
     let same = sum_below_same 64 (λ p. bit next p + 1 * one_at place p) (bit rest)
-    (λ p low. let e = gone.each p low in omega arith) in
+    (λ p low. omega arith) in
     let both = sum_below-add 64 (bit next) (λ p. 1 * one_at place p) in
     let one = sum_below-one_at 64 place (λ p. 1) gone.inside in
     omega arith
@@ -94,11 +93,11 @@ reads_more {g} {s} {corner} {set} {rest} {next} {reach} {far} {place} d now befo
   within_set = λ p low. let a = before.within_set p low in let e = gone.each p low in omega arith;
   grows = let a = before.grows in omega arith;
   done = λ p low has none.
-      let e = gone.each p low in let a = before.done p low has in grind (arith, nat_tests);
+      let a = before.done p low has in grind (arith, nat_tests);
   reached = λ more. ⊎_elim
       (λ (farther : far < d).
       let inside = gone.inside in
-      (place, inside, let a = before.within_set place inside in let b = bit_le set place in omega arith, omega arith))
+      (place, inside, let b = bit_le set place in omega arith, omega arith))
       (λ (not : d ≤ far). let old = before.reached (omega arith) in (old.0, old.1, old.2, omega arith))
       (cases_lt far d);
 }
@@ -149,7 +148,7 @@ sets_more {g} {s} {words} {rest} next k {set} {reach} {far} before one is each =
           (λ (z : rest k ≡ 0). let a = before.within k p z low there in omega arith)
           (λ (same : rest k ≡ words k). one.within p low (ap (λ x. bit x p) (is ∙ same) ∙ there))
           (before.left k))
-          (λ i ne z there. let a = before.within i p z low there in omega arith) m (sym (each m) ∙ none) has;
+          (λ i ne z there. omega arith) m (sym (each m) ∙ none) has;
       reached = λ some. ⊎_elim
           (λ (farther : reach < far).
           let now = one.reached farther in (

@@ -66,7 +66,7 @@ pays_put free τ k start new t visits = cond_each (λ m x. Pays (τ m) x (free m
     (record {
       once = λ p l. let o = visits.once p l in let n = only_same k k (bit new) p refl in omega arith;
       at_open = λ p l is. let o = visits.at_open p l is in let n = around_same k new p in omega arith;
-      modulo = λ p l. let o = visits.modulo p l in let n = around_same k new p in omega arith;
+      modulo = λ p l. let n = around_same k new p in omega arith;
     })
     (λ m ne. pays_none (τ m) (free m) k m new ne)
 
@@ -92,12 +92,9 @@ visited_wave {g} {site} {h} {free} {τ} {away} {t} {k} {start} {new} {b} s more 
       record {
         inside = λ m p l.
             let o = (pays m).once p l in
-            let i = wave.inside m p l in
-            let a = sites_only m p l in
             let both = on_sum g (toppled g τ) n (toppled g (put k t τ)) m p l (λ j less. sum j) in
             omega arith;
         at_open = λ j l ne.
-            let at = wave.at_open j l ne in
             let f = flows j l in
             let x = (pays (tile_of g j)).at_open (place_of g j) (place_below g j) (free_at from j l ne) in
             let r = sums (tile_of g j) (place_of g j) in

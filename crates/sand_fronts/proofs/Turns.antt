@@ -62,7 +62,6 @@ has_turn {g} {site} {h} {free} {τ} {n} {all} k board turn wait =
     let low = lowest a (λ e. omega arith) (omega arith) in
     let p = trailing_zeros w64 a in
     let one = sym (cut (τ k).due p low.0) ∙ low.1 in
-    let is_free = turn.due_free k p low.0 in
     let f = bit_le (free k) p in
     let yes = open_site g site free k p turn.from.all_open low.0 (omega arith) in
     let t = there_again g k p low.0 yes.0 in
@@ -94,7 +93,6 @@ turn_visit {g} {site} {h} {free} {τ} {away} {s} {n} {k} {start} {new} {t}
     let part = at_most_sum_below (sites g) u j inside in
     let topples : u j ≡ 1 = only_same k (tile_of g j) (bit new) (place_of g j) here ∙ one in
     let count = turn.count in
-    let once = next.1 site in
     let few = bit_le (put k t τ (tile_of g site)).wave (place_of g site) in
     record {
       from = turn.from;
@@ -115,8 +113,6 @@ turn_one {g} {site} {h} {free} {τ} {away} {n} {k} {new} {t} more turn has visit
     let p = place_of g has.j in
     let low = place_below g has.j in
     let f = ap (λ m. bit (free m) p) (sym has.here) ∙ free_at turn.from has.j has.inside has.other in
-    let gained = visits.at_open p low f in
-    let once = visits.once p low in
     let none = ap (λ x. bit x p) visits.none_due ∙ bit_none p in
     let l = height_low t p in
     let few = bit_le new p in
@@ -177,10 +173,8 @@ turn_first {g} {site} {h} {free} {τ} {k} {start} {new} {t} {b} turn here begins
     let inside = turn.from.inside in
     let p = place_of g site in
     let lp = place_below g site in
-    let o = turn.from.all_open k p lp in
     let a = ap (λ m. on_tiles g (λ i. 1 - one_at site i) m p) here ∙ at_on g (λ i. 1 - one_at site i) site inside in
     let s = one_at_same site in
-    let st = begins p lp in
     let st' = ap (λ m. on_tiles g (λ i. 1 * one_at site i) m p) here ∙ at_on g (λ i. 1 * one_at site i) site inside in
     let held = visits.at_held p lp (omega arith) in
     let own = only_same k (tile_of g site) (bit new) p (sym here) in
@@ -230,7 +224,7 @@ kept_on {n} {kept} {τ} {σ} {before} {after} all same each = record {
       (λ (clear : IsClear (τ m)). inl (λ p low. each m p low ∙ clear p low))
       (λ (at : Keeps before kept m). inr (at.0, at.1, at.2, same at.0 at.2 ∙ at.3))
       (all.listed m);
-  on_board = λ t below. let s = same t below in let b = all.on_board t below in omega arith;
+  on_board = λ t below. omega arith;
 }
 
 -- the list begins with one tile, which is visited

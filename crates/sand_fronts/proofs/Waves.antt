@@ -53,7 +53,7 @@ pub record IsUnderWay (g : Grid) (site : ℕ) (h : ℕ → ℕ) (τ : ℕ → Ti
 pub arrived : {g : Grid} {site : ℕ} {h : ℕ → ℕ} {τ : ℕ → Tile} → IsUnderWay g site h τ (λ m p. 0) → IsWave g site h τ
 arrived {g} {site} {h} {τ} wave = record {
   inside = wave.inside;
-  at_open = λ j l ne. let at = wave.at_open j l ne in omega arith;
+  at_open = λ j l ne. omega arith;
   at_held = let low = height_low (τ (tile_of g site)) (place_of g site) in omega arith;
   needed = wave.needed;
 }
@@ -69,7 +69,7 @@ pub open_site : (g : Grid) (site : ℕ) (free : ℕ → ℕ) (k p : ℕ) → Are
     → (is_site g k p ≡ true) × (site_on g k p ≢ site)
 unfolding on_tiles
 open_site g site free k p open' low is =
-    let e = open' k p low in (grind (arith, nat_tests), λ (same : site_on g k p ≡ site). grind (arith, nat_tests))
+    (grind (arith, nat_tests), λ (same : site_on g k p ≡ site). grind (arith, nat_tests))
 
 set_is : (g : Grid) (τ : ℕ → Tile) (j : ℕ) → toppled g τ j ≤ 1
 set_is g τ j = bit_le _ _
@@ -93,7 +93,6 @@ wave_ready {g} {site} {h} {free} {τ} k start s from wave begins first =
           let yes = open_site g site free k p open' l is in
           let t = there_again g k p l yes.0 in
           let j = site_on g k p in
-          let at = wave.at_open j t.0 yes.1 in
           let back = ap (λ m. had (τ m) (place_of g j)) t.1 ∙ ap (had (τ k)) t.2 in
           let a = around_le (unused (free k) start (τ k).wave) (on_tiles g (λ i. 1 - toppled g τ i) k) p l unused_le in
           let b = around_some g (λ i. 1 - toppled g τ i) j t.0 in
@@ -102,7 +101,6 @@ wave_ready {g} {site} {h} {free} {τ} k start s from wave begins first =
           let both = flow-add g (toppled g τ) (λ i. 1 - toppled g τ i) j in
           let four = flow_four_at_most g (λ i. toppled g τ i + (1 - toppled g τ i))
           (λ i m. let z = set_is g τ i in omega arith) j t.0 in
-          let h3 = from.low j t.0 yes.1 in
           omega arith;
       held = λ p l is. on_each g k p (λ (r : (ℕ → ℕ) → ℕ). bit (free k) p ≡ r (λ j. 1 - one_at site j)
           → bit start p ≡ r (λ j. s * one_at site j) → bit (τ k).wave p ≡ r (toppled g τ)
@@ -119,9 +117,6 @@ pub newly : {g : Grid} {site : ℕ} {h free : ℕ → ℕ} {t u : Tile} {start n
 unfolding only on_tiles
 newly {g} {site} {h} {free} {t} {u} {start} {new} k s from begins visits m p low =
     on_tiles_is g (only k (bit new)) m p low (λ no.
-    let o = from.all_open k p low in
-    let b = begins p low in
-    let held = visits.at_held p low in
     grind (arith, nat_tests))
 
 -- whatever stabilises the pile leaves no 4 in this tile
@@ -136,9 +131,7 @@ calm {g} {site} {h} {free} {τ} {away} k start s w from wave begins first stable
     let below = wave.needed w stable in
     record {
       start_in = λ p low.
-          let b = begins p low in
           let more = least_action g h (toppled g τ) w site 1 inside stable below in
-          let le' = below site inside in
           let some : s ≤ w site - toppled g τ site = grind arith in
           let le = on_tiles_le g (λ j. s * one_at site j) (λ j. w j - toppled g τ j) k p low
           (λ j l. let e = cases_eq site j in grind (arith, nat_tests)) in
@@ -147,18 +140,14 @@ calm {g} {site} {h} {free} {τ} {away} k start s w from wave begins first stable
           let yes = open_site g site free k p open' low is in
           let t = there_again g k p low yes.0 in
           let j = site_on g k p in
-          let at = wave.at_open j t.0 yes.1 in
           let back = ap (λ m. had (τ m) (place_of g j)) t.1 ∙ ap (had (τ k)) t.2 in
           let r = λ (i : ℕ). w i - toppled g τ i in
           let some = around_some g r j t.0 in
           let some' = ap (λ m. around (on_tiles g r m) (place_of g j)) t.1 ∙ ap (around (on_tiles g r k)) t.2 in
           let here = on_site g r k p yes.0 in
-          let set = wave.inside k p low in
           let set' = on_site g (toppled g τ) k p yes.0 in
           let all = flow_same g (λ i. toppled g τ i + r i) w (λ i l. let le = below i l in omega arith) j t.0 in
           let both = flow-add g (toppled g τ) r j in
-          let three = stable.at_most_three j t.0 in
-          let le = below j t.0 in
           omega arith;
     }
 
@@ -172,7 +161,6 @@ unfolding only
 needed_next {g} {site} {h} {free} {τ} {away} {t} {k} {start} {new} s from wave begins first visits w stable j l =
     let r = λ (i : ℕ). w i - toppled g τ i in
     let c = calm k start s w from wave begins first stable in
-    let le = wave.needed w stable j l in
     let least = visits.least (on_tiles g r k) c (place_of g j) (place_below g j) in
     let value = at_on g r j l in
     grind (arith, nat_tests)
@@ -191,14 +179,11 @@ handed_over {g} {site} {h} {free} {τ} {σ} {away} from wave gains =
           let all = on_each g m p (λ (r : (ℕ → ℕ) → ℕ). r (toppled g σ) ≡ r (toppled g τ)) l (λ j less. same j) refl in
           omega arith;
       at_open = λ j l ne.
-          let at = wave.at_open j l ne in
           let f = flows j l in
           let four = flow_four_at_most g (toppled g τ) (λ i m. set_is g τ i) j l in
-          let h3 = from.low j l ne in
           let to = gains.each (tile_of g j) (place_of g j) (place_below g j) (free_at from j l ne) (omega arith) in
           omega arith;
       at_held =
-          let f = flows site from.inside in
           let to = gains.modulo (tile_of g site) (place_of g site) (place_below g site) in
           omega arith;
       needed = λ w stable j l. let e = same j in let le = wave.needed w stable j l in omega arith;
