@@ -1,8 +1,8 @@
 -- A step, from the tiles to the grid.
-use Rattle.std.proofs.Common.{ℕ, ◌≡◌, ◌+◌, ◌*◌, ◌/◌, ◌%◌, ◌^◌, ◌<◌, ◌≤◌, ◌∙◌, ap, arith, refl}
+use Rattle.std.proofs.Common.{ℕ, ◌≡◌, ◌+◌, ◌/◌, ◌%◌, ◌^◌, ◌<◌, ◌≤◌, ◌∙◌, sym, ap, subst, arith, refl}
 use Rattle.std.proofs.lemmas.Nat.{mod-mul-add}
 use Rattle.sand_model.specs.Grid.{Grid, sites}
-use Rattle.sand_model.specs.Sand.{flow, one_at}
+use Rattle.sand_model.specs.Sand.{flow}
 use Rattle.sand_model.proofs.Flow.{flow_same, flow-add}
 use Rattle.sand_tiles.specs.declared.tile.Tile.{Tile}
 use Rattle.sand_tiles.specs.Places.{bit, height, had, around, Visits}
@@ -12,7 +12,7 @@ use Rattle.sand_fronts.specs.Tiling.{pitch, tile_of, place_of, on_tiles}
 use Rattle.sand_fronts.specs.Waves.{at_site, toppled, only, put, over_rim, IsBeside}
 use Rattle.sand_fronts.proofs.NeighboursOnTiles.{tile, place, IsBlank, parts_of, flow_on_tiles}
 use Rattle.sand_fronts.proofs.OnTiles.{place_below, on_tiles_blank, on_sum, height_low}
-use Rattle.sand_fronts.proofs.Waves.{only_same, only_other, IsStart, IsUnderWay, free_at, newly, needed_next}
+use Rattle.sand_fronts.proofs.Waves.{only_same, only_other, IsStart, Starts, IsUnderWay, free_at, newly, needed_next}
 use Rattle.sand_fronts.proofs.Rims.{IsInner, north_rim, south_rim, east_rim, west_rim}
 use Rattle.sand_fronts.proofs.Gained.{cond_each}
 
@@ -40,40 +40,30 @@ gained g k new b j inside ik beside fits blank =
     let w = west_rim g (bit new) k m p im ik in
     rw (beside.north, beside.south, beside.west, beside.east, beside.west_shift, beside.east_shift) (omega arith)
 
-around_same : (k new p : ℕ) → around (only k (bit new) k) p ≡ around (bit new) p
-around_same k new p = ap (λ (f : ℕ → ℕ). around f p) (λ i q. only_same k k (bit new) q refl i)
-
 -- what a tile has before and after the places of the set `new` topple
 record Pays (t v : Tile) (free : ℕ) (new : ℕ → ℕ) : Type 0 where
   pub once : (p : ℕ) → p < 64 → bit v.wave p ≡ bit t.wave p + new p
   pub at_open : (p : ℕ) → p < 64 → bit free p ≡ 1 → had v p ≡ had t p + around new p
   pub modulo : (p : ℕ) → p < 64 → height v p ≡ (height t p + around new p) % 4
 
-pays_none : (t : Tile) (free k m new : ℕ) → (m ≡ k → ⊥) → Pays t t free (only k (bit new) m)
-pays_none t free k m new there =
-    let none : (p : ℕ) → p < 64 → around (only k (bit new) m) p ≡ 0 =
-    λ p l. around_none (only k (bit new) m) p l (λ q x. only_other k m (bit new) q there) in
-    record {
-      once = λ p l. let n = only_other k m (bit new) p there in omega arith;
-      at_open = λ p l is. let n = none p l in omega arith;
-      modulo = λ p l. let n = none p l in let a = height_low t p in omega arith;
-    }
-
 -- a tile is visited, and the others stay
 pays_put : (free : ℕ → ℕ) (τ : ℕ → Tile) (k start new : ℕ) (t : Tile) → Visits (τ k) t (free k) start new → (m : ℕ)
     → Pays (τ m) (put k t τ m) (free m) (only k (bit new) m)
 pays_put free τ k start new t visits = cond_each (λ m x. Pays (τ m) x (free m) (only k (bit new) m)) τ k t
-    (record {
-      once = λ p l. let o = visits.once p l in let n = only_same k k (bit new) p refl in omega arith;
-      at_open = λ p l is. let o = visits.at_open p l is in let n = around_same k new p in omega arith;
-      modulo = λ p l. let n = around_same k new p in omega arith;
-    })
-    (λ m ne. pays_none (τ m) (free m) k m new ne)
+    (subst (Pays (τ k) t (free k)) (λ i p. sym (only_same k k (bit new) p refl) i)
+    (record { once = visits.once; at_open = visits.at_open; modulo = visits.modulo }))
+    (λ m ne.
+    let none = λ (p : ℕ) (l : p < 64). around_none (λ q. 0) p l (λ q x. refl) in
+    subst (Pays (τ m) (τ m) (free m)) (λ i p. sym (only_other k m (bit new) p ne) i) (record {
+      once = λ p l. omega arith;
+      at_open = λ p l is. let n = none p l in omega arith;
+      modulo = λ p l. let n = none p l in let a = height_low (τ m) p in omega arith;
+    }))
 
 -- a tile is visited: its sites topple, and the grains that leave it are under way
 pub visited_wave : {g : Grid} {site : ℕ} {h free : ℕ → ℕ} {τ : ℕ → Tile} {away : ℕ → ℕ → ℕ} {t : Tile} {k start new : ℕ}
     {b : Beside} (s : ℕ) (more : ℕ → ℕ → ℕ) → IsStart g site h free → IsUnderWay g site h τ away
-    → ((p : ℕ) → p < 64 → bit start p ≡ on_tiles g (λ j. s * one_at site j) k p) → toppled g τ site + s ≤ 1
+    → Starts g site s k start → toppled g τ site + s ≤ 1
     → IsInner g k → IsBeside g k b → Visits (τ k) t (free k) start new → new < 2 ^ 64
     → ((m p : ℕ) → more m p ≡ away m p + over_rim b new m p)
     → IsUnderWay g site h (put k t τ) more

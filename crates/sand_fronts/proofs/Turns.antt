@@ -22,14 +22,14 @@ use Rattle.sand_fronts.specs.Tiling.{tiles, tile_of, place_of, site_on, on_tiles
 use Rattle.sand_fronts.specs.Waves.{at_site, toppled, only, put, tile_at, AreOpen, AreDueFree, IsNoneDue, Gains, over_rim, PairSteps, IsBeside, AtTile, AreBeside, beside_at, AreAtRest, heights_before}
 use Rattle.sand_fronts.specs.TileLists.{waits, but, IsClear, AreKept}
 use Rattle.sand_fronts.proofs.OnTiles.{place_below, there_again, at_on, on_below, height_low}
-use Rattle.sand_fronts.proofs.Waves.{only_same, open_site, free_at, IsStart, IsUnderWay, wave_ready, handed_over}
+use Rattle.sand_fronts.proofs.Waves.{only_same, open_site, free_at, IsStart, Starts, IsUnderWay, wave_ready, handed_over}
 use Rattle.sand_fronts.proofs.Steps.{inner, visited_wave}
 use Rattle.sand_fronts.proofs.Ends.{first_wave}
 use Rattle.sand_fronts.proofs.Filled.{entry_each}
 use Rattle.sand_fronts.proofs.Reached.{lowest}
 use Rattle.sand_fronts.proofs.Gained.{blank, no_place, cond_each}
 
-pub starts_none : (g : Grid) (site k p : ℕ) → p < 64 → bit 0 p ≡ on_tiles g (λ j. 0 * one_at site j) k p
+starts_none : (g : Grid) (site k : ℕ) → Starts g site 0 k 0
 starts_none g site k p low =
     let z = bit_none p in
     let n = on_below g (λ j. 0 * one_at site j) k p 0 low (λ j l. omega arith) in
@@ -78,7 +78,7 @@ has_turn {g} {site} {h} {free} {τ} {n} {all} k board turn wait =
 -- a tile is visited, and its site j topples
 turn_visit : {g : Grid} {site : ℕ} {h free : ℕ → ℕ} {τ : ℕ → Tile} {away : ℕ → ℕ → ℕ} {s n k start new : ℕ} {t : Tile}
     {b : Beside} (more : ℕ → ℕ → ℕ) (j : ℕ) → IsTurn g site h free τ away s n
-    → ((p : ℕ) → p < 64 → bit start p ≡ on_tiles g (λ i. s * one_at site i) k p) → IsBeside g k b
+    → Starts g site s k start → IsBeside g k b
     → j < sites g → tile_of g j ≡ k → bit new (place_of g j) ≡ 1 → s ≤ at_site g (only k (bit new)) site
     → Visits (τ k) t (free k) start new → new < 2 ^ 64 → ((m p : ℕ) → more m p ≡ away m p + over_rim b new m p)
     → IsTurn g site h free (put k t τ) more 0 (n + 1)
@@ -165,8 +165,7 @@ turn_none {g} {site} free {τ} open' rest inside = record {
 
 -- its tile is visited first
 pub turn_first : {g : Grid} {site : ℕ} {h free : ℕ → ℕ} {τ : ℕ → Tile} {k start new : ℕ} {t : Tile} {b : Beside}
-    → IsTurn g site h free τ (λ m p. 0) 1 0 → k ≡ tile_of g site
-    → ((p : ℕ) → p < 64 → bit start p ≡ on_tiles g (λ j. 1 * one_at site j) k p)
+    → IsTurn g site h free τ (λ m p. 0) 1 0 → k ≡ tile_of g site → Starts g site 1 k start
     → IsBeside g k b → Visits (τ k) t (free k) start new → new < 2 ^ 64
     → IsTurn g site h free (put k t τ) (over_rim b new) 0 1
 turn_first {g} {site} {h} {free} {τ} {k} {start} {new} {t} {b} turn here begins beside visits fits =

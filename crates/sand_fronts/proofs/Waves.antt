@@ -41,6 +41,10 @@ pub record IsStart (g : Grid) (site : ℕ) (h : ℕ → ℕ) (free : ℕ → ℕ
   pub high : 4 ≤ h site
   pub all_open : AreOpen g site free
 
+-- the places of tile k that start: that of the dropped site, or none
+abbrev pub Starts : Grid → ℕ → ℕ → ℕ → ℕ → Type 0
+Starts g site s k start = (p : ℕ) → p < 64 → bit start p ≡ on_tiles g (λ j. s * one_at site j) k p
+
 -- the state of a wave of which grains are under way, by the tile and the place that they reach
 pub record IsUnderWay (g : Grid) (site : ℕ) (h : ℕ → ℕ) (τ : ℕ → Tile) (away : ℕ → ℕ → ℕ) : Type 0 where
   pub inside : (k p : ℕ) → p < 64 → bit (τ k).wave p ≡ on_tiles g (toppled g τ) k p
@@ -76,8 +80,7 @@ set_is g τ j = bit_le _ _
 
 -- a tile is ready for a visit
 pub wave_ready : {g : Grid} {site : ℕ} {h free : ℕ → ℕ} {τ : ℕ → Tile} (k start s : ℕ)
-    → IsStart g site h free → IsUnderWay g site h τ (λ m p. 0)
-    → ((p : ℕ) → p < 64 → bit start p ≡ on_tiles g (λ j. s * one_at site j) k p) → toppled g τ site + s ≤ 1
+    → IsStart g site h free → IsUnderWay g site h τ (λ m p. 0) → Starts g site s k start → toppled g τ site + s ≤ 1
     → IsReady (τ k) (free k) start
 wave_ready {g} {site} {h} {free} {τ} k start s from wave begins first =
     let open' = from.all_open in
@@ -111,19 +114,16 @@ wave_ready {g} {site} {h} {free} {τ} k start s from wave begins first =
 
 -- only sites topple in a visit
 pub newly : {g : Grid} {site : ℕ} {h free : ℕ → ℕ} {t u : Tile} {start new : ℕ} (k s : ℕ) → IsStart g site h free
-    → ((q : ℕ) → q < 64 → bit start q ≡ on_tiles g (λ j. s * one_at site j) k q)
-    → Visits t u (free k) start new → (m p : ℕ) → p < 64
+    → Starts g site s k start → Visits t u (free k) start new → (m p : ℕ) → p < 64
     → only k (bit new) m p ≡ on_tiles g (at_site g (only k (bit new))) m p
 unfolding only on_tiles
 newly {g} {site} {h} {free} {t} {u} {start} {new} k s from begins visits m p low =
-    on_tiles_is g (only k (bit new)) m p low (λ no.
-    grind (arith, nat_tests))
+    on_tiles_is g (only k (bit new)) m p low (λ no. grind (arith, nat_tests))
 
 -- whatever stabilises the pile leaves no 4 in this tile
 calm : {g : Grid} {site : ℕ} {h free : ℕ → ℕ} {τ : ℕ → Tile} {away : ℕ → ℕ → ℕ} (k start s : ℕ) (w : ℕ → ℕ)
-    → IsStart g site h free → IsUnderWay g site h τ away
-    → ((p : ℕ) → p < 64 → bit start p ≡ on_tiles g (λ j. s * one_at site j) k p)
-    → toppled g τ site + s ≤ 1 → Stabilises g h w
+    → IsStart g site h free → IsUnderWay g site h τ away → Starts g site s k start → toppled g τ site + s ≤ 1
+    → Stabilises g h w
     → Calms (τ k) (free k) start (on_tiles g (λ j. w j - toppled g τ j) k)
 calm {g} {site} {h} {free} {τ} {away} k start s w from wave begins first stable =
     let inside = from.inside in
@@ -153,8 +153,7 @@ calm {g} {site} {h} {free} {τ} {away} k start s w from wave begins first stable
 
 -- whatever stabilises the pile topples the sites that topple in a visit
 pub needed_next : {g : Grid} {site : ℕ} {h free : ℕ → ℕ} {τ : ℕ → Tile} {away : ℕ → ℕ → ℕ} {t : Tile} {k start new : ℕ} (s : ℕ)
-    → IsStart g site h free → IsUnderWay g site h τ away
-    → ((p : ℕ) → p < 64 → bit start p ≡ on_tiles g (λ j. s * one_at site j) k p) → toppled g τ site + s ≤ 1
+    → IsStart g site h free → IsUnderWay g site h τ away → Starts g site s k start → toppled g τ site + s ≤ 1
     → Visits (τ k) t (free k) start new → (w : ℕ → ℕ) → Stabilises g h w → (j : ℕ) → j < sites g
     → toppled g τ j + at_site g (only k (bit new)) j ≤ w j
 unfolding only

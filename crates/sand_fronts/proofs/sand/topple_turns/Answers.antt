@@ -1,28 +1,26 @@
-use Rattle.std.proofs.Common.{ℕ, ◌≡◌, ◌≢◌, ◌+◌, ◌*◌, ◌<◌, ◌∙◌, refl, sym, ap, length, drop, arith}
+use Rattle.std.proofs.Common.{ℕ, ◌+◌, ◌<◌, ◌∙◌, refl, sym, ap, length, drop, arith}
 use Rattle.std.proofs.Math.ListN.{set}
 use Rattle.std.proofs.lemmas.Bool.{ne_eqb}
 use Rattle.std.proofs.lemmas.List.{length-set, length-take-le, drop_all, drop-set-lt, get_or-take}
 use Rattle.sand_model.specs.Lists.{Lists}
 use Rattle.sand_model.specs.Sand.{one_at}
-use Rattle.sand_tiles.specs.Places.{bit}
-use Rattle.sand_fronts.specs.Tiling.{tiles, on_tiles}
+use Rattle.sand_fronts.specs.Tiling.{tiles}
 use Rattle.sand_fronts.specs.Waves.{beside_at, over_rim, AtTile}
 use Rattle.sand_fronts.specs.TileLists.{waits, but}
 use Rattle.sand_fronts.specs.Boards.{tiles_of, free_of}
 use Rattle.sand_fronts.proofs.OnTiles.{place_below}
 use Rattle.sand_fronts.proofs.Gained.{tile_read}
 use Rattle.sand_fronts.proofs.OneSite.{start_of}
-use Rattle.sand_fronts.proofs.Waves.{arrived, wave_ready}
+use Rattle.sand_fronts.proofs.Waves.{Starts, arrived, wave_ready}
 use Rattle.sand_fronts.proofs.Turns.{HasTurn, turn_none, turn_first, turn_one, turn_two, turn_over, next_one, next_two, first_kept, keep_one, kept_on, none_wait, few_topplings, few_listed, none_left}
-use Rattle.sand_fronts.proofs.sand.topple_turns.Goals.{After-set_of, After-item-k, After-item-other}
+use Rattle.sand_fronts.proofs.sand.topple_turns.Goals.{After-set_of, After-item-k}
 use Rattle.sand_fronts.proofs.sand.topple_turns.Goals as goal
 
 pub set_of-requires : goal.set_of-requires
 set_of-requires c = let low = place_below c.args.board.now.shape c.args.drop.site in omega (arith, c.requires.drop.place)
 
 -- the first turn: that of the dropped site's tile
-starts : (c : After-set_of) → (p : ℕ) → p < 64 → bit c.set_of.result p
-    ≡ on_tiles c.args.board.now.shape (λ j. 1 * one_at c.args.drop.site j) c.args.drop.tile p
+starts : (c : After-set_of) → Starts c.args.board.now.shape c.args.drop.site 1 c.args.drop.tile c.set_of.result
 starts c =
     start_of c.args.board.now.shape c.args.drop.site c.args.drop.tile c.set_of.result c.requires.drop.inside
     c.requires.drop.tile (λ p low. c.set_of.ensures p low ∙ ap (λ q. one_at q p) c.requires.drop.place)
@@ -84,55 +82,40 @@ turns-smaller-then-position-len c =
 
 -- ---- two tiles
 
-two : (c : After-item-other) → (c.item-k.result ≢ c.item-other.result)
-    × HasTurn c.args.board.now.shape c.args.drop.site (free_of c.args.board.now c.item-k.result)
-    (tiles_of c.turns.sand c.item-k.result) c.item-k.result (beside_at c.args.board.now.beside.items c.item-k.result)
-    × HasTurn c.args.board.now.shape c.args.drop.site (free_of c.args.board.now c.item-other.result)
-    (tiles_of c.turns.sand c.item-other.result) c.item-other.result
-    (beside_at c.args.board.now.beside.items c.item-other.result)
-    × Lists (tiles c.args.board.now.shape) (but c.item-other.result (but c.item-k.result (waits
-    (tiles_of c.turns.sand))))
-    (drop (c.turns.position + 2) c.turns.sand.list.items)
-two c = next_two c.requires.board.beside c.turns.invariant.on
-    (omega (arith, c.if-position-len.true, c.len-in-turns.ensures.value)) c.item-k.ensures c.item-other.ensures
-
-pub topple_pair-requires-clause-different : goal.topple_pair-requires-clause-different
-topple_pair-requires-clause-different c = (two (goal.at.topple_pair-requires-clause-different c).After-item-other).0
-
-pub topple_pair-requires-clause-tile : goal.topple_pair-requires-clause-tile
-topple_pair-requires-clause-tile c = (two (goal.at.topple_pair-requires-clause-tile c).After-item-other).1.tile
-
-pub topple_pair-requires-clause-other_tile : goal.topple_pair-requires-clause-other_tile
-topple_pair-requires-clause-other_tile c = (two
-    (goal.at.topple_pair-requires-clause-other_tile c).After-item-other).2.tile
-
-pub topple_pair-requires-clause-ready : goal.topple_pair-requires-clause-ready
-topple_pair-requires-clause-ready c = (two (goal.at.topple_pair-requires-clause-ready c).After-item-other).1.ready
-
-pub topple_pair-requires-clause-other_ready : goal.topple_pair-requires-clause-other_ready
-topple_pair-requires-clause-other_ready c = (two
-    (goal.at.topple_pair-requires-clause-other_ready c).After-item-other).2.ready
-
 pub index-requires-then-position-len : goal.index-requires-then-position-len
 index-requires-then-position-len c =
-    let at = (two (goal.at.index-requires-then-position-len c).After-item-other).2.tile in
-    omega (arith, at.inside, c.turns.invariant.sand.len)
+    let t = next_two c.requires.board.beside c.turns.invariant.on
+    (omega (arith, c.if-position-len.true, c.len-in-turns.ensures.value)) c.item-k.ensures c.item-other.ensures in
+    omega (arith, t.2.tile.inside, c.turns.invariant.sand.len)
 
 pub keep_if-kept-requires-clause-fits : goal.keep_if-kept-requires-clause-fits
 keep_if-kept-requires-clause-fits c =
-    let at = (two (goal.at.keep_if-kept-requires-clause-fits c).After-item-other).1.tile in
+    let at = (one (goal.at.keep_if-kept-requires-clause-fits c).After-item-k).0.tile in
     omega (arith, at.inside, c.requires.board.beside.fits)
 
 pub keep_if-kept-requires-then-position-len-clause-fits : goal.keep_if-kept-requires-then-position-len-clause-fits
 keep_if-kept-requires-then-position-len-clause-fits c =
-    let at = (two (goal.at.keep_if-kept-requires-then-position-len-clause-fits c).After-item-other).2.tile in
-    omega (arith, at.inside, c.requires.board.beside.fits)
+    let t = next_two c.requires.board.beside c.turns.invariant.on
+    (omega (arith, c.if-position-len.true, c.len-in-turns.ensures.value)) c.item-k.ensures c.item-other.ensures in
+    omega (arith, t.2.tile.inside, c.requires.board.beside.fits)
 
-pub topple_pair-requires-clause-room : goal.topple_pair-requires-clause-room
-topple_pair-requires-clause-room c =
+pub topple_pair-requires : goal.topple_pair-requires
+topple_pair-requires c =
+    let t = next_two c.requires.board.beside c.turns.invariant.on
+    (omega (arith, c.if-position-len.true, c.len-in-turns.ensures.value)) c.item-k.ensures c.item-other.ensures in
     let few = few_listed c.turns.invariant.on in
     let room = c.turns.invariant.sand.room in
-    rw (c.keep_if-kept-then-position-len.ensures.list, c.keep_if-kept.ensures.list) (omega (arith, length-set {A = ℕ}))
+    rw (c.keep_if-kept-then-position-len.ensures.list, c.keep_if-kept.ensures.list) (record {
+      board = c.requires.board;
+      edge = c.requires.edge;
+      sand = record { len = c.turns.invariant.sand.len; room = room };
+      different = t.0;
+      tile = t.1.tile;
+      other_tile = t.2.tile;
+      ready = t.1.ready;
+      other_ready = t.2.ready;
+      room = omega (arith, length-set {A = ℕ});
+    })
 
 pub turns-preserved-then-position-len : goal.turns-preserved-then-position-len
 turns-preserved-then-position-len c =
@@ -143,13 +126,13 @@ turns-preserved-then-position-len c =
     let other = c.item-other.result in
     let next = c.turns.position + 2 in
     let long = c.turns.invariant.sand.len in
-    let t = two (goal.at.turns-preserved-then-position-len c).After-item-other in
-    let one_in = t.1.tile.inside in
-    let two_in = t.2.tile.inside in
-    let apart = ne_eqb other k (λ e. t.0 (sym e)) in
     let steps = c.topple_pair.ensures.steps in
     let within : c.turns.position + 1 < length list =
     omega (arith, c.if-position-len.true, c.len-in-turns.ensures.value) in
+    let t = next_two c.requires.board.beside on within c.item-k.ensures c.item-other.ensures in
+    let one_in = t.1.tile.inside in
+    let two_in = t.2.tile.inside in
+    let apart = ne_eqb other k (λ e. t.0 (sym e)) in
     let spent = on.spent in
     let kept = keep_one k steps.one.tile on.all_kept one_in (omega arith)
     (tile_read ts k c.index.result.now (omega arith) c.index.ensures) (omega arith) c.keep_if-kept.ensures.next in
@@ -174,19 +157,19 @@ turns-preserved-then-position-len c =
 
 -- ---- one tile
 
-pub topple_tile-requires-else-position-len-clause-tile : goal.topple_tile-requires-else-position-len-clause-tile
-topple_tile-requires-else-position-len-clause-tile c =
-    (one (goal.at.topple_tile-requires-else-position-len-clause-tile c).After-item-k).0.tile
-
-pub topple_tile-requires-else-position-len-clause-ready : goal.topple_tile-requires-else-position-len-clause-ready
-topple_tile-requires-else-position-len-clause-ready c =
-    (one (goal.at.topple_tile-requires-else-position-len-clause-ready c).After-item-k).0.ready
-
-pub topple_tile-requires-else-position-len-clause-room : goal.topple_tile-requires-else-position-len-clause-room
-topple_tile-requires-else-position-len-clause-room c =
+pub topple_tile-requires-else-position-len : goal.topple_tile-requires-else-position-len
+topple_tile-requires-else-position-len c =
+    let t = one (goal.at.topple_tile-requires-else-position-len c).After-item-k in
     let few = few_listed c.turns.invariant.on in
     let room = c.turns.invariant.sand.room in
-    rw (c.keep_if-kept-else-position-len.ensures.list) (omega (arith, length-set {A = ℕ}))
+    rw (c.keep_if-kept-else-position-len.ensures.list) (record {
+      board = c.requires.board;
+      edge = c.requires.edge;
+      sand = record { len = c.turns.invariant.sand.len; room = room };
+      tile = t.0.tile;
+      ready = t.0.ready;
+      room = omega (arith, length-set {A = ℕ});
+    })
 
 pub keep_if-kept-requires-else-position-len-clause-fits : goal.keep_if-kept-requires-else-position-len-clause-fits
 keep_if-kept-requires-else-position-len-clause-fits c =
