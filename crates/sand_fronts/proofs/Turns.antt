@@ -53,90 +53,6 @@ pub record HasTurn (g : Grid) (site free : ℕ) (t : Tile) (k : ℕ) (b : Beside
   pub tile : AtTile g k b
   pub ready : IsReady t free 0
 
--- each tile that waits has its turn
-has_turn : {g : Grid} {site : ℕ} {h free : ℕ → ℕ} {τ : ℕ → Tile} {n : ℕ} {all : List Beside} (k : ℕ) → AreBeside g all
-    → IsTurn g site h free τ (λ m p. 0) 0 n → waits τ k ≡ true → HasTurn g site (free k) (τ k) k (beside_at all k)
-has_turn {g} {site} {h} {free} {τ} {n} {all} k board turn wait =
-    let a = (τ k).due % 2 ^ 64 in
-    let some = ltb-true 0 a wait in
-    let low = lowest a (λ e. omega arith) (omega arith) in
-    let p = trailing_zeros w64 a in
-    let one = sym (cut (τ k).due p low.0) ∙ low.1 in
-    let f = bit_le (free k) p in
-    let yes = open_site g site free k p turn.from.all_open low.0 (omega arith) in
-    let t = there_again g k p low.0 yes.0 in
-    record {
-      j = site_on g k p;
-      inside = t.0;
-      other = yes.1;
-      here = t.1;
-      due = ap (bit (τ k).due) t.2 ∙ one;
-      tile = rw t.1 at (board.each (site_on g k p) t.0);
-      ready = wave_ready k 0 0 turn.from turn.wave (starts_none g site k) (omega arith);
-    }
-
--- a tile is visited, and its site j topples
-turn_visit : {g : Grid} {site : ℕ} {h free : ℕ → ℕ} {τ : ℕ → Tile} {away : ℕ → ℕ → ℕ} {s n k start new : ℕ} {t : Tile}
-    {b : Beside} (more : ℕ → ℕ → ℕ) (j : ℕ) → IsTurn g site h free τ away s n
-    → Starts g site s k start → IsBeside g k b
-    → j < sites g → tile_of g j ≡ k → bit new (place_of g j) ≡ 1 → s ≤ at_site g (only k (bit new)) site
-    → Visits (τ k) t (free k) start new → new < 2 ^ 64 → ((m p : ℕ) → more m p ≡ away m p + over_rim b new m p)
-    → IsTurn g site h free (put k t τ) more 0 (n + 1)
-turn_visit {g} {site} {h} {free} {τ} {away} {s} {n} {k} {start} {new} {t}
-    {b} more j turn begins beside inside here one own
-    visits fits sums =
-    let u : ℕ → ℕ = at_site g (only k (bit new)) in
-    let next = visited_wave s more turn.from turn.wave begins (omega arith)
-    (rw here at (inner g j inside)) beside visits fits sums in
-    let all = sum_below_same (sites g) (toppled g (put k t τ)) (λ i. toppled g τ i + u i) (λ i m. next.1 i)
-    ∙ sum_below-add (sites g) (toppled g τ) u in
-    let part = at_most_sum_below (sites g) u j inside in
-    let topples : u j ≡ 1 = only_same k (tile_of g j) (bit new) (place_of g j) here ∙ one in
-    let count = turn.count in
-    let few = bit_le (put k t τ (tile_of g site)).wave (place_of g site) in
-    record {
-      from = turn.from;
-      wave = next.0;
-      due_free = cond_each (λ m x. (p : ℕ) → p < 64 → bit x.due p ≤ bit (free m) p) τ k t
-          (λ p low. let z = ap (λ w. bit w p) visits.none_due ∙ bit_none p in omega arith) (λ m ne. turn.due_free m);
-      started = omega arith;
-      count = omega arith;
-    }
-
--- a tile whose turn has come is visited
-pub turn_one : {g : Grid} {site : ℕ} {h free : ℕ → ℕ} {τ : ℕ → Tile} {away : ℕ → ℕ
-    → ℕ} {n k new : ℕ} {t : Tile} {b : Beside}
-    (more : ℕ → ℕ → ℕ) → IsTurn g site h free τ away 0 n → HasTurn g site (free k) (τ k) k b
-    → Visits (τ k) t (free k) 0 new → new < 2 ^ 64 → ((m p : ℕ) → more m p ≡ away m p + over_rim b new m p)
-    → IsTurn g site h free (put k t τ) more 0 (n + 1)
-turn_one {g} {site} {h} {free} {τ} {away} {n} {k} {new} {t} more turn has visits fits sums =
-    let p = place_of g has.j in
-    let low = place_below g has.j in
-    let f = ap (λ m. bit (free m) p) (sym has.here) ∙ free_at turn.from has.j has.inside has.other in
-    let none = ap (λ x. bit x p) visits.none_due ∙ bit_none p in
-    let l = height_low t p in
-    let few = bit_le new p in
-    turn_visit more has.j turn (starts_none g site k) has.tile.each has.inside has.here (omega arith) (omega arith)
-    visits fits sums
-
--- two tiles: the second one is visited while the grains of the first are under way
-pub turn_two : {g : Grid} {site : ℕ} {h free : ℕ → ℕ} {τ σ : ℕ → Tile} {j k n : ℕ} {b c : Beside}
-    → IsTurn g site h free τ (λ m p. 0) 0 n → j ≢ k → HasTurn g site (free j) (τ j) j b
-    → HasTurn g site (free k) (τ k) k c
-    → (steps : PairSteps τ σ free b c j k)
-    → IsTurn g site h free (put k steps.two.tile (put j steps.one.tile τ))
-    (λ m p. over_rim b steps.one.new m p + over_rim c steps.two.new m p) 0 (n + 1 + 1)
-turn_two {g} {site} {h} {free} {τ} {σ} {j} {k} {n} {b} {c} turn ne has has' steps =
-    let one = steps.one in
-    let two = steps.two in
-    let mid : ℕ → Tile = put j one.tile τ in
-    let apart = ne_eqb k j (λ e. ne (sym e)) in
-    let still : HasTurn g site (free k) (mid k) k c = rw apart has' in
-    let visits : Visits (mid k) two.tile (free k) 0 two.new = rw apart two.visits in
-    turn_one (λ m p. over_rim b one.new m p + over_rim c two.new m p)
-    (turn_one (over_rim b one.new) turn has one.visits one.fits (λ m p. omega arith)) still visits two.fits
-    (λ m p. refl)
-
 pub clear_site : (g : Grid) (site : ℕ) (τ : ℕ → Tile) → AreAtRest g site τ → toppled g τ site ≡ 0
 clear_site g site τ rest = rest.quiet.clear (tile_of g site) (place_of g site) (place_below g site)
 
@@ -162,23 +78,6 @@ turn_none {g} {site} free {τ} open' rest inside = record {
   started = let z = clear_site g site τ rest in omega arith;
   count = omega arith;
 }
-
--- its tile is visited first
-pub turn_first : {g : Grid} {site : ℕ} {h free : ℕ → ℕ} {τ : ℕ → Tile} {k start new : ℕ} {t : Tile} {b : Beside}
-    → IsTurn g site h free τ (λ m p. 0) 1 0 → k ≡ tile_of g site → Starts g site 1 k start
-    → IsBeside g k b → Visits (τ k) t (free k) start new → new < 2 ^ 64
-    → IsTurn g site h free (put k t τ) (over_rim b new) 0 1
-turn_first {g} {site} {h} {free} {τ} {k} {start} {new} {t} {b} turn here begins beside visits fits =
-    let inside = turn.from.inside in
-    let p = place_of g site in
-    let lp = place_below g site in
-    let a = ap (λ m. on_tiles g (λ i. 1 - one_at site i) m p) here ∙ at_on g (λ i. 1 - one_at site i) site inside in
-    let s = one_at_same site in
-    let st' = ap (λ m. on_tiles g (λ i. 1 * one_at site i) m p) here ∙ at_on g (λ i. 1 * one_at site i) site inside in
-    let held = visits.at_held p lp (omega arith) in
-    let own = only_same k (tile_of g site) (bit new) p (sym here) in
-    turn_visit (over_rim b new) site turn begins beside inside (sym here) (omega arith) (omega arith) visits fits
-    (λ m q. omega arith)
 
 pub few_topplings : (g : Grid) (τ : ℕ → Tile) → topplings g (toppled g τ) ≤ sites g
 few_topplings g τ = at_most_all (sites g) (toppled g τ) (λ j l. bit_le _ _)
@@ -275,60 +174,150 @@ pub record IsOn (g : Grid) (site : ℕ) (h free : ℕ → ℕ) (τ : ℕ → Til
   pub spent : kept ≤ position
   pub within : position ≤ length list
 
--- the grains under way arrive, and tiles join the list
-pub turn_over : {g : Grid} {site : ℕ} {h free : ℕ → ℕ} {τ σ : ℕ → Tile} {away : ℕ → ℕ
-    → ℕ} {n a kept position : ℕ} {p : ℕ → Bool}
-    {l m : ListView} → IsTurn g site h free τ away 0 n → Gains free τ σ away → Joins (tiles g) a p (waits σ) l m
-    → AreKept (tiles g) l.items kept τ → Lists (tiles g) p (drop position l.items)
-    → position ≤ n → kept ≤ position → position ≤ length l.items → IsOn g site h free σ m.items kept position
-turn_over {g} {site} {h} {free} {τ} {σ} {position = position} turn gains joins all waiting le spent within =
-    let same : (j : ℕ) → toppled g σ j ≡ toppled g τ j =
-    λ j. gains.wave (tile_of g j) (place_of g j) (place_below g j) in
-    let sums = sum_below_same (sites g) (toppled g σ) (toppled g τ) (λ j l. same j) in
-    let count = turn.count in
-    let started = turn.started in
-    let still = same site in
-    let long = longer joins in
-    record {
-      turn = record {
+module _ {g : Grid} {site : ℕ} {h free : ℕ → ℕ} where
+  -- each tile that waits has its turn
+  has_turn : {τ : ℕ → Tile} {n : ℕ} {all : List Beside} (k : ℕ) → AreBeside g all → IsTurn g site h free τ (λ m p. 0) 0 n
+      → waits τ k ≡ true → HasTurn g site (free k) (τ k) k (beside_at all k)
+  has_turn {τ} k board turn wait =
+      let a = (τ k).due % 2 ^ 64 in
+      let some = ltb-true 0 a wait in
+      let low = lowest a (λ e. omega arith) (omega arith) in
+      let p = trailing_zeros w64 a in
+      let one = sym (cut (τ k).due p low.0) ∙ low.1 in
+      let f = bit_le (free k) p in
+      let yes = open_site g site free k p turn.from.all_open low.0 (omega arith) in
+      let t = there_again g k p low.0 yes.0 in
+      record {
+        j = site_on g k p;
+        inside = t.0;
+        other = yes.1;
+        here = t.1;
+        due = ap (bit (τ k).due) t.2 ∙ one;
+        tile = rw t.1 at (board.each (site_on g k p) t.0);
+        ready = wave_ready k 0 0 turn.from turn.wave (starts_none g site k) (omega arith);
+      }
+
+  -- a tile is visited, and its site j topples
+  turn_visit : {τ : ℕ → Tile} {away : ℕ → ℕ → ℕ} {s n k start new : ℕ} {t : Tile} {b : Beside} (more : ℕ → ℕ → ℕ) (j : ℕ)
+      → IsTurn g site h free τ away s n → Starts g site s k start → IsBeside g k b → j < sites g → tile_of g j ≡ k
+      → bit new (place_of g j) ≡ 1 → s ≤ at_site g (only k (bit new)) site → Visits (τ k) t (free k) start new
+      → new < 2 ^ 64 → ((m p : ℕ) → more m p ≡ away m p + over_rim b new m p)
+      → IsTurn g site h free (put k t τ) more 0 (n + 1)
+  turn_visit {τ} {s = s} {k = k} {new = new} {t = t} more j turn begins beside inside here one own visits fits sums =
+      let u : ℕ → ℕ = at_site g (only k (bit new)) in
+      let next = visited_wave s more turn.from turn.wave begins (omega arith) (rw here at (inner g j inside)) beside
+      visits fits sums in
+      let all = sum_below_same (sites g) (toppled g (put k t τ)) (λ i. toppled g τ i + u i) (λ i m. next.1 i)
+      ∙ sum_below-add (sites g) (toppled g τ) u in
+      let part = at_most_sum_below (sites g) u j inside in
+      let topples : u j ≡ 1 = only_same k (tile_of g j) (bit new) (place_of g j) here ∙ one in
+      let count = turn.count in
+      let few = bit_le (put k t τ (tile_of g site)).wave (place_of g site) in
+      record {
         from = turn.from;
-        wave = handed_over turn.from turn.wave gains;
-        due_free = gains.due_free turn.due_free;
+        wave = next.0;
+        due_free = cond_each (λ m x. (p : ℕ) → p < 64 → bit x.due p ≤ bit (free m) p) τ k t
+            (λ p low. let z = ap (λ w. bit w p) visits.none_due ∙ bit_none p in omega arith) (λ m ne. turn.due_free m);
         started = omega arith;
         count = omega arith;
-      };
-      waiting = waiting_from joins position within waiting;
-      all_kept = kept_on all (λ t less. kept_before joins t (omega arith)) gains.wave;
-      spent = spent;
-      within = omega arith;
-    }
+      }
 
--- the list never has more tiles than there are sites and tiles
-pub few_listed : {g : Grid} {site : ℕ} {h free : ℕ → ℕ} {τ : ℕ → Tile} {list : List ℕ} {kept position : ℕ}
-    → IsOn g site h free τ list kept position → length list ≤ sites g + tiles g
-few_listed {g} {τ = τ} {list = list} {position = position} on =
-    let few = few_topplings g τ in
-    let long = lists_length (tiles g) (waits τ) (drop position list) on.waiting in
-    omega (arith, length-drop position list, on.turn.count)
+  -- a tile whose turn has come is visited
+  pub turn_one : {τ : ℕ → Tile} {away : ℕ → ℕ → ℕ} {n k new : ℕ} {t : Tile} {b : Beside} (more : ℕ → ℕ → ℕ)
+      → IsTurn g site h free τ away 0 n → HasTurn g site (free k) (τ k) k b → Visits (τ k) t (free k) 0 new
+      → new < 2 ^ 64 → ((m p : ℕ) → more m p ≡ away m p + over_rim b new m p)
+      → IsTurn g site h free (put k t τ) more 0 (n + 1)
+  turn_one {k = k} {new = new} {t = t} more turn has visits fits sums =
+      let p = place_of g has.j in
+      let low = place_below g has.j in
+      let f = ap (λ m. bit (free m) p) (sym has.here) ∙ free_at turn.from has.j has.inside has.other in
+      let none = ap (λ x. bit x p) visits.none_due ∙ bit_none p in
+      let l = height_low t p in
+      let few = bit_le new p in
+      turn_visit more has.j turn (starts_none g site k) has.tile.each has.inside has.here (omega arith) (omega arith)
+      visits fits sums
 
--- the tile at the position has its turn
-pub next_one : {g : Grid} {site : ℕ} {h free : ℕ → ℕ} {τ : ℕ → Tile} {list : List ℕ} {kept position k : ℕ}
-    {all : List Beside}
-    → AreBeside g all → IsOn g site h free τ list kept position → position < length list → k ≡ get_or list position 0
-    → HasTurn g site (free k) (τ k) k (beside_at all k) × Lists (tiles g) (but k (waits τ)) (drop (position + 1) list)
-next_one {g} {τ = τ} {list = list} {position = position} {k = k} board on less is =
-    let one = front_of (tiles g) position (position + 1) k (waits τ) list on.waiting less refl is in
-    (has_turn k board on.turn one.0, one.1)
+  -- two tiles: the second one is visited while the grains of the first are under way
+  pub turn_two : {τ σ : ℕ → Tile} {j k n : ℕ} {b c : Beside} → IsTurn g site h free τ (λ m p. 0) 0 n → j ≢ k
+      → HasTurn g site (free j) (τ j) j b → HasTurn g site (free k) (τ k) k c → (steps : PairSteps τ σ free b c j k)
+      → IsTurn g site h free (put k steps.two.tile (put j steps.one.tile τ))
+      (λ m p. over_rim b steps.one.new m p + over_rim c steps.two.new m p) 0 (n + 1 + 1)
+  turn_two {τ} {j = j} {k = k} {b = b} {c = c} turn ne has has' steps =
+      let one = steps.one in
+      let two = steps.two in
+      let mid : ℕ → Tile = put j one.tile τ in
+      let apart = ne_eqb k j (λ e. ne (sym e)) in
+      let still : HasTurn g site (free k) (mid k) k c = rw apart has' in
+      let visits : Visits (mid k) two.tile (free k) 0 two.new = rw apart two.visits in
+      turn_one (λ m p. over_rim b one.new m p + over_rim c two.new m p)
+      (turn_one (over_rim b one.new) turn has one.visits one.fits (λ m p. omega arith)) still visits two.fits
+      (λ m p. refl)
 
--- the next two have their turns, and are not the same
-pub next_two : {g : Grid} {site : ℕ} {h free : ℕ → ℕ} {τ : ℕ → Tile} {list : List ℕ} {kept position j k : ℕ}
-    {all : List Beside}
-    → AreBeside g all → IsOn g site h free τ list kept position → position + 1 < length list
-    → j ≡ get_or list position 0 → k ≡ get_or list (position + 1) 0
-    → (j ≢ k) × HasTurn g site (free j) (τ j) j (beside_at all j) × HasTurn g site (free k) (τ k) k (beside_at all k)
-    × Lists (tiles g) (but k (but j (waits τ))) (drop (position + 2) list)
-next_two {g} {τ = τ} {list = list} {position = position} {j = j} {k = k} board on less is is' =
-    let one = next_one board on (omega arith) is in
-    let two = front_of (tiles g) (position + 1) (position + 2) k (but j (waits τ)) list one.1 less (omega arith) is' in
-    let parts = and_parts (not (eqb k j)) (waits τ k) two.0 in
-    (λ e. eqb-false k j (not-true (eqb k j) parts.0) (sym e), one.0, has_turn k board on.turn parts.1, two.1)
+  -- the dropped site's tile is visited first
+  pub turn_first : {τ : ℕ → Tile} {k start new : ℕ} {t : Tile} {b : Beside} → IsTurn g site h free τ (λ m p. 0) 1 0
+      → k ≡ tile_of g site → Starts g site 1 k start → IsBeside g k b → Visits (τ k) t (free k) start new → new < 2 ^ 64
+      → IsTurn g site h free (put k t τ) (over_rim b new) 0 1
+  turn_first {k = k} {new = new} {b = b} turn here begins beside visits fits =
+      let inside = turn.from.inside in
+      let p = place_of g site in
+      let lp = place_below g site in
+      let a = ap (λ m. on_tiles g (λ i. 1 - one_at site i) m p) here ∙ at_on g (λ i. 1 - one_at site i) site inside in
+      let s = one_at_same site in
+      let st' = ap (λ m. on_tiles g (λ i. 1 * one_at site i) m p) here ∙ at_on g (λ i. 1 * one_at site i) site inside in
+      let held = visits.at_held p lp (omega arith) in
+      let own = only_same k (tile_of g site) (bit new) p (sym here) in
+      turn_visit (over_rim b new) site turn begins beside inside (sym here) (omega arith) (omega arith) visits fits
+      (λ m q. omega arith)
+
+  -- the grains under way arrive, and tiles join the list
+  pub turn_over : {τ σ : ℕ → Tile} {away : ℕ → ℕ → ℕ} {n a kept position : ℕ} {p : ℕ → Bool} {l m : ListView}
+      → IsTurn g site h free τ away 0 n → Gains free τ σ away → Joins (tiles g) a p (waits σ) l m
+      → AreKept (tiles g) l.items kept τ → Lists (tiles g) p (drop position l.items)
+      → position ≤ n → kept ≤ position → position ≤ length l.items → IsOn g site h free σ m.items kept position
+  turn_over {τ} {σ} {position = position} turn gains joins all waiting le spent within =
+      let same : (j : ℕ) → toppled g σ j ≡ toppled g τ j =
+      λ j. gains.wave (tile_of g j) (place_of g j) (place_below g j) in
+      let sums = sum_below_same (sites g) (toppled g σ) (toppled g τ) (λ j l. same j) in
+      let count = turn.count in
+      let still = same site in
+      let long = longer joins in
+      record {
+        turn = record {
+          from = turn.from;
+          wave = handed_over turn.from turn.wave gains;
+          due_free = gains.due_free turn.due_free;
+          started = omega arith;
+          count = omega arith;
+        };
+        waiting = waiting_from joins position within waiting;
+        all_kept = kept_on all (λ t less. kept_before joins t (omega arith)) gains.wave;
+        spent = spent;
+        within = omega arith;
+      }
+
+  -- the list never has more tiles than there are sites and tiles
+  pub few_listed : {τ : ℕ → Tile} {list : List ℕ} {kept position : ℕ} → IsOn g site h free τ list kept position
+      → length list ≤ sites g + tiles g
+  few_listed {τ} {list} {position = position} on =
+      let few = few_topplings g τ in
+      let long = lists_length (tiles g) (waits τ) (drop position list) on.waiting in
+      omega (arith, length-drop position list, on.turn.count)
+
+  module _ {τ : ℕ → Tile} {list : List ℕ} {kept position j : ℕ} {all : List Beside} (board : AreBeside g all)
+      (on : IsOn g site h free τ list kept position) (is : j ≡ get_or list position 0) where
+    -- the tile at the position has its turn
+    pub next_one : position < length list
+        → HasTurn g site (free j) (τ j) j (beside_at all j) × Lists (tiles g) (but j (waits τ)) (drop (position + 1) list)
+    next_one less =
+        let one = front_of (tiles g) position (position + 1) j (waits τ) list on.waiting less refl is in
+        (has_turn j board on.turn one.0, one.1)
+
+    -- the next two have their turns, and are not the same
+    pub next_two : {k : ℕ} → position + 1 < length list → k ≡ get_or list (position + 1) 0
+        → (j ≢ k) × HasTurn g site (free j) (τ j) j (beside_at all j) × HasTurn g site (free k) (τ k) k (beside_at all k)
+        × Lists (tiles g) (but k (but j (waits τ))) (drop (position + 2) list)
+    next_two {k} less is' =
+        let one = next_one (omega arith) in
+        let two = front_of (tiles g) (position + 1) (position + 2) k (but j (waits τ)) list one.1 less (omega arith) is' in
+        let parts = and_parts (not (eqb k j)) (waits τ k) two.0 in
+        (λ e. eqb-false k j (not-true (eqb k j) parts.0) (sym e), one.0, has_turn k board on.turn parts.1, two.1)

@@ -64,13 +64,13 @@ one : (c : After-item-k)
     (tiles_of c.turns.sand c.item-k.result) c.item-k.result (beside_at c.args.board.now.beside.items c.item-k.result)
     × Lists (tiles c.args.board.now.shape) (but c.item-k.result (waits (tiles_of c.turns.sand)))
     (drop (c.turns.position + 1) c.turns.sand.list.items)
-one c = next_one c.requires.board.beside c.turns.invariant.on (omega (arith, c.turns-test.true, c.len.ensures.value))
-    c.item-k.ensures
+one c = next_one c.requires.board.beside c.turns.invariant.on c.item-k.ensures
+    (omega (arith, c.turns-test.true, c.len.ensures.value))
 
 pub index-requires : goal.index-requires
 index-requires c =
-    let at = (one (goal.at.index-requires c).After-item-k).0.tile in omega
-    (arith, at.inside, c.turns.invariant.sand.len)
+    let at = (one (goal.at.index-requires c).After-item-k).0.tile in
+    omega (arith, at.inside, c.turns.invariant.sand.len)
 
 pub turns-smaller : goal.turns-smaller
 turns-smaller c =
@@ -84,8 +84,8 @@ turns-smaller-then-position-len c =
 
 pub index-requires-then-position-len : goal.index-requires-then-position-len
 index-requires-then-position-len c =
-    let t = next_two c.requires.board.beside c.turns.invariant.on
-    (omega (arith, c.if-position-len.true, c.len-in-turns.ensures.value)) c.item-k.ensures c.item-other.ensures in
+    let t = next_two c.requires.board.beside c.turns.invariant.on c.item-k.ensures
+    (omega (arith, c.if-position-len.true, c.len-in-turns.ensures.value)) c.item-other.ensures in
     omega (arith, t.2.tile.inside, c.turns.invariant.sand.len)
 
 pub keep_if-kept-requires-clause-fits : goal.keep_if-kept-requires-clause-fits
@@ -95,14 +95,14 @@ keep_if-kept-requires-clause-fits c =
 
 pub keep_if-kept-requires-then-position-len-clause-fits : goal.keep_if-kept-requires-then-position-len-clause-fits
 keep_if-kept-requires-then-position-len-clause-fits c =
-    let t = next_two c.requires.board.beside c.turns.invariant.on
-    (omega (arith, c.if-position-len.true, c.len-in-turns.ensures.value)) c.item-k.ensures c.item-other.ensures in
+    let t = next_two c.requires.board.beside c.turns.invariant.on c.item-k.ensures
+    (omega (arith, c.if-position-len.true, c.len-in-turns.ensures.value)) c.item-other.ensures in
     omega (arith, t.2.tile.inside, c.requires.board.beside.fits)
 
 pub topple_pair-requires : goal.topple_pair-requires
 topple_pair-requires c =
-    let t = next_two c.requires.board.beside c.turns.invariant.on
-    (omega (arith, c.if-position-len.true, c.len-in-turns.ensures.value)) c.item-k.ensures c.item-other.ensures in
+    let t = next_two c.requires.board.beside c.turns.invariant.on c.item-k.ensures
+    (omega (arith, c.if-position-len.true, c.len-in-turns.ensures.value)) c.item-other.ensures in
     let few = few_listed c.turns.invariant.on in
     let room = c.turns.invariant.sand.room in
     rw (c.keep_if-kept-then-position-len.ensures.list, c.keep_if-kept.ensures.list) (record {
@@ -129,7 +129,7 @@ turns-preserved-then-position-len c =
     let steps = c.topple_pair.ensures.steps in
     let within : c.turns.position + 1 < length list =
     omega (arith, c.if-position-len.true, c.len-in-turns.ensures.value) in
-    let t = next_two c.requires.board.beside on within c.item-k.ensures c.item-other.ensures in
+    let t = next_two c.requires.board.beside on c.item-k.ensures within c.item-other.ensures in
     let one_in = t.1.tile.inside in
     let two_in = t.2.tile.inside in
     let apart = ne_eqb other k (λ e. t.0 (sym e)) in
