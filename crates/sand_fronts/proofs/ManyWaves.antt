@@ -1,7 +1,7 @@
 -- From one wave of a drop to the next.
-use Rattle.std.proofs.Common.{ℕ, Bool, true, false, cond, eqb, ltb, leb, ◌&&◌, List, ◌≡◌, ◌≢◌, ◌+◌, ◌-◌, ◌*◌, ◌^◌, ◌<◌, ◌≤◌, refl, sym, ◌∙◌, ap, subst, arith, ⊎_elim}
+use Rattle.std.proofs.Common.{ℕ, Bool, true, false, cond, eqb, ltb, leb, ◌&&◌, List, ◌≡◌, ◌≢◌, ◌+◌, ◌*◌, ◌^◌, ◌<◌, ◌≤◌, refl, sym, ◌∙◌, ap, subst, arith, ⊎_elim}
 use Rattle.std.proofs.Math.Nat.{mul-le-mul_right}
-use Rattle.std.proofs.lemmas.Bool.{cases_eq, eq-eqb, ne_eqb, and_parts, eqb-true, leb-true, leb-false}
+use Rattle.std.proofs.lemmas.Bool.{cases_eq, eq-eqb, ne_eqb, leb-true, leb-false}
 use Rattle.std.proofs.lemmas.Bool.Decides.{nat_tests}
 use Rattle.sand_model.specs.Grid.{Grid, IsGrid, sites, missing}
 use Rattle.sand_model.specs.Sand.{IsToppled, IsSettled, flow, one_at, topplings, lost, weight, grain_weight, sum_below}
@@ -35,33 +35,13 @@ heights_now g site more τ j = cond more (heights_before g site τ j) (heights_o
 
 -- ---- what the held site has
 
-left : Grid → ℕ → (ℕ → Tile) → ℕ → ℕ
-left g site τ j = heights_on g τ j + (flow g (toppled g τ) site - heights_on g τ site) * one_at site j
-
-left_leaves : {g : Grid} {site : ℕ} {h : ℕ → ℕ} {τ : ℕ → Tile} → HasPassed g site h τ → Leaves g site h τ (left g site τ)
-unfolding left
-left_leaves {g} {site} {h} {τ} past =
-    let x = flow g (toppled g τ) site - heights_on g τ site in
-    record {
-      others = λ j l ne. let o = ap (λ y. x * y) (one_at_other site j (λ e. ne (sym e))) in omega arith;
-      held = let o = ap (λ y. x * y) (one_at_same site) in omega arith;
-    }
-
-left_held : {g : Grid} {site : ℕ} {h : ℕ → ℕ} {τ : ℕ → Tile} → HasPassed g site h τ
-    → left g site τ site ≡ flow g (toppled g τ) site
-left_held past = let l = (left_leaves past).held in omega arith
-
-mul_le : (x y z : ℕ) → x ≤ y → x * z ≤ y * z
-mul_le x y z le = mul-le-mul_right z le
-
 others_none : (g : Grid) (site : ℕ) (t : ℕ → ℕ) → site < sites g → t site ≡ 1 → topplings g t ≤ 1
     → (j : ℕ) → j < sites g → j ≢ site → t j ≡ 0
 others_none g site t inside one few j l ne =
     let u : ℕ → ℕ = λ i. cond (eqb i site) 0 (t i) in
-    let less = sum_less_one (sites g) site t u inside (ap (λ b. cond b 0 (t site)) (eq-eqb site site refl))
-    (λ i other. ap (λ b. cond b 0 (t i)) (ne_eqb i site other)) in
+    let less = sum_less_one (sites g) site t u inside (rw (eq-eqb site site refl)) (λ i other. rw (ne_eqb i site other)) in
     let part = at_most_sum_below (sites g) u j l in
-    let same : u j ≡ t j = ap (λ b. cond b 0 (t j)) (ne_eqb j site ne) in
+    let same : u j ≡ t j = rw (ne_eqb j site ne) in
     omega arith
 
 -- if no other site has toppled, the held one did not get 4 grains back, since the pile is lighter
@@ -69,19 +49,21 @@ alone_rests : {g : Grid} {site : ℕ} {h : ℕ → ℕ} {τ : ℕ → Tile} → 
     → topplings g (toppled g τ) ≤ 1 → flow g (toppled g τ) site ≡ 4 → ⊥
 alone_rests {g} {site} {h} {τ} past few back =
     let t = toppled g τ in
-    let k = left g site τ in
-    let balance = wave_balance past (left_leaves past) in
+    let k = heights_before g site τ in
+    let balance = wave_balance {k = k} past (record {
+      others = λ j l ne. let o = one_at_other site j (λ e. ne (sym e)) in omega arith;
+      held = let o = one_at_same site in omega arith;
+    }) in
     let done : IsToppled g h t k = record { balance = balance } in
     let light = weight_after g h t k done in
-    let at = left_held past in
     let inside = past.inside in
     let started = past.started in
     let part = at_most_sum_below (sites g) t site inside in
     let others = others_none g site t inside started few in
     let heavy = sum_below_le (sites g) (λ i. h i * grain_weight g i) (λ i. k i * grain_weight g i) (λ j l.
     let either = cases_eq j site in
-    let more : h j ≤ k j = grind arith in
-    mul_le (h j) (k j) (grain_weight g j) more) in
+    let more : h j ≤ k j = grind (arith, nat_tests) in
+    mul-le-mul_right (grain_weight g j) more) in
     omega arith
 
 other_toppled : (g : Grid) (site : ℕ) (t : ℕ → ℕ) → site < sites g → t site ≡ 1 → 1 < topplings g t
@@ -201,9 +183,7 @@ waves_more {g} {site} more {τ} {σ} {us} {vs} {c} d' {e'} inside waves whole co
           clear = clear;
           none_due = λ m p low. ap (λ x. bit x p) (counts.due m) ∙ whole.none_due m p low;
         };
-        empty = λ is.
-            let parts = and_parts (ltb 1 (topplings g t)) (eqb (heights_on g ρ site) 0) (sym test ∙ is) in
-            eqb-true (heights_on g ρ site) 0 parts.1;
+        empty = λ is. grind (arith, nat_tests);
         advances = record {
           underway = λ s before. next.underway s (waves.advances.underway s before);
           weight_pays = let a = next.weight_pays in let b = waves.advances.weight_pays in omega arith;
@@ -244,7 +224,7 @@ missing_le g j = omega arith
 pub lost_few : (g : Grid) (u : ℕ → ℕ) → lost g u ≤ 4 * topplings g u
 lost_few g u =
     let le = sum_below_le (sites g) (λ j. missing g j * u j) (λ j. 4 * u j)
-    (λ j l. mul_le (missing g j) 4 (u j) (missing_le g j)) in
+    (λ j l. mul-le-mul_right (u j) (missing_le g j)) in
     let scaled = sum_below-scale (sites g) 4 u in
     omega arith
 

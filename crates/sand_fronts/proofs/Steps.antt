@@ -71,7 +71,7 @@ pub visited_wave : {g : Grid} {site : ℕ} {h free : ℕ → ℕ} {τ : ℕ → 
 visited_wave {g} {site} {h} {free} {τ} {away} {t} {k} {start} {new} {b} s more from wave begins first ik beside visits fits sums =
     let n : ℕ → ℕ = at_site g (only k (bit new)) in
     let pays : (m : ℕ) → Pays (τ m) (put k t τ m) (free m) (only k (bit new) m) = pays_put free τ k start new t visits in
-    let sites_only : (m p : ℕ) → p < 64 → only k (bit new) m p ≡ on_tiles g n m p = newly k s from begins visits in
+    let sites_only : (m p : ℕ) → p < 64 → only k (bit new) m p ≡ on_tiles g n m p = newly from k s begins visits in
     let sum : (j : ℕ) → toppled g (put k t τ) j ≡ toppled g τ j + n j =
     λ j. (pays (tile_of g j)).once (place_of g j) (place_below g j) in
     let flows : (j : ℕ) → j < sites g → flow g (toppled g (put k t τ)) j ≡ flow g (toppled g τ) j
@@ -96,7 +96,7 @@ visited_wave {g} {site} {h} {free} {τ} {away} {t} {k} {start} {new} {b} s more 
             omega arith;
         needed = λ w stable j l.
             let e = sum j in
-            let le = needed_next s from wave begins first visits w stable j l in
+            let le = needed_next from s wave begins first visits w stable j l in
             omega arith;
       },
       sum,

@@ -194,7 +194,7 @@ module _ {g : Grid} {site : ℕ} {h free : ℕ → ℕ} where
         here = t.1;
         due = ap (bit (τ k).due) t.2 ∙ one;
         tile = rw t.1 at (board.each (site_on g k p) t.0);
-        ready = wave_ready k 0 0 turn.from turn.wave (starts_none g site k) (omega arith);
+        ready = wave_ready turn.from k 0 0 turn.wave (starts_none g site k) (omega arith);
       }
 
   -- a tile is visited, and its site j topples

@@ -62,12 +62,6 @@ arrived {g} {site} {h} {τ} wave = record {
   needed = wave.needed;
 }
 
-pub free_at : {g : Grid} {site : ℕ} {h free : ℕ → ℕ} → IsStart g site h free → (j : ℕ) → j < sites g → j ≢ site
-    → bit (free (tile_of g j)) (place_of g j) ≡ 1
-free_at {g} {site} {h} {free} from j l ne =
-    let z = one_at_other site j (λ e. ne (sym e)) in
-    from.all_open (tile_of g j) (place_of g j) (place_below g j) ∙ at_on g (λ i. 1 - one_at site i) j l ∙ omega arith
-
 -- a free place is a site that is not held
 pub open_site : (g : Grid) (site : ℕ) (free : ℕ → ℕ) (k p : ℕ) → AreOpen g site free → p < 64 → bit (free k) p ≡ 1
     → (is_site g k p ≡ true) × (site_on g k p ≢ site)
@@ -78,112 +72,114 @@ open_site g site free k p open' low is =
 set_is : (g : Grid) (τ : ℕ → Tile) (j : ℕ) → toppled g τ j ≤ 1
 set_is g τ j = bit_le _ _
 
--- a tile is ready for a visit
-pub wave_ready : {g : Grid} {site : ℕ} {h free : ℕ → ℕ} {τ : ℕ → Tile} (k start s : ℕ)
-    → IsStart g site h free → IsUnderWay g site h τ (λ m p. 0) → Starts g site s k start → toppled g τ site + s ≤ 1
-    → IsReady (τ k) (free k) start
-wave_ready {g} {site} {h} {free} {τ} k start s from wave begins first =
-    let open' = from.all_open in
-    let unused_le : (q : ℕ) → q < 64 → unused (free k) start (τ k).wave q ≤ on_tiles g (λ j. 1 - toppled g τ j) k q =
-    λ q l.
-    let f = bit_le (free k) q in
-    let st = bit_le start q in
-    on_each g k q (λ (r : (ℕ → ℕ) → ℕ). bit (free k) q ≡ r (λ j. 1 - one_at site j) → bit start q ≡ r (λ j. s * one_at site j)
-    → bit (τ k).wave q ≡ r (toppled g τ) → unused (free k) start (τ k).wave q ≤ r (λ j. 1 - toppled g τ j)) l
-    (λ j m o b i. omega arith) (λ o b i. omega arith) (open' k q l) (begins q l) (wave.inside k q l) in
-    record {
-      low = λ p l is.
-          let yes = open_site g site free k p open' l is in
-          let t = there_again g k p l yes.0 in
-          let j = site_on g k p in
-          let back = ap (λ m. had (τ m) (place_of g j)) t.1 ∙ ap (had (τ k)) t.2 in
-          let a = around_le (unused (free k) start (τ k).wave) (on_tiles g (λ i. 1 - toppled g τ i) k) p l unused_le in
-          let b = around_some g (λ i. 1 - toppled g τ i) j t.0 in
-          let b' = ap (λ m. around (on_tiles g (λ i. 1 - toppled g τ i) m) (place_of g j)) t.1
-          ∙ ap (around (on_tiles g (λ i. 1 - toppled g τ i) k)) t.2 in
-          let both = flow-add g (toppled g τ) (λ i. 1 - toppled g τ i) j in
-          let four = flow_four_at_most g (λ i. toppled g τ i + (1 - toppled g τ i))
-          (λ i m. let z = set_is g τ i in omega arith) j t.0 in
-          omega arith;
-      held = λ p l is. on_each g k p (λ (r : (ℕ → ℕ) → ℕ). bit (free k) p ≡ r (λ j. 1 - one_at site j)
-          → bit start p ≡ r (λ j. s * one_at site j) → bit (τ k).wave p ≡ r (toppled g τ)
-          → (bit (free k) p ≡ 0) × (bit (τ k).wave p ≡ 0)) l
-          (λ j m o b i. (grind (arith, nat_tests), grind (arith, nat_tests)))
-          (λ o b i. absurd (omega arith)) (open' k p l) (begins p l) (wave.inside k p l);
-    }
+module _ {g : Grid} {site : ℕ} {h free : ℕ → ℕ} (from : IsStart g site h free) where
+  pub free_at : (j : ℕ) → j < sites g → j ≢ site → bit (free (tile_of g j)) (place_of g j) ≡ 1
+  free_at j l ne =
+      let z = one_at_other site j (λ e. ne (sym e)) in
+      from.all_open (tile_of g j) (place_of g j) (place_below g j) ∙ at_on g (λ i. 1 - one_at site i) j l ∙ omega arith
 
--- only sites topple in a visit
-pub newly : {g : Grid} {site : ℕ} {h free : ℕ → ℕ} {t u : Tile} {start new : ℕ} (k s : ℕ) → IsStart g site h free
-    → Starts g site s k start → Visits t u (free k) start new → (m p : ℕ) → p < 64
-    → only k (bit new) m p ≡ on_tiles g (at_site g (only k (bit new))) m p
-unfolding only on_tiles
-newly {g} {site} {h} {free} {t} {u} {start} {new} k s from begins visits m p low =
-    on_tiles_is g (only k (bit new)) m p low (λ no. grind (arith, nat_tests))
+  -- a tile is ready for a visit
+  pub wave_ready : {τ : ℕ → Tile} (k start s : ℕ) → IsUnderWay g site h τ (λ m p. 0) → Starts g site s k start
+      → toppled g τ site + s ≤ 1 → IsReady (τ k) (free k) start
+  wave_ready {τ} k start s wave begins first =
+      let open' = from.all_open in
+      let unused_le : (q : ℕ) → q < 64 → unused (free k) start (τ k).wave q ≤ on_tiles g (λ j. 1 - toppled g τ j) k q =
+      λ q l.
+      let f = bit_le (free k) q in
+      let st = bit_le start q in
+      on_each g k q (λ (r : (ℕ → ℕ) → ℕ). bit (free k) q ≡ r (λ j. 1 - one_at site j) → bit start q ≡ r (λ j. s * one_at site j)
+      → bit (τ k).wave q ≡ r (toppled g τ) → unused (free k) start (τ k).wave q ≤ r (λ j. 1 - toppled g τ j)) l
+      (λ j m o b i. omega arith) (λ o b i. omega arith) (open' k q l) (begins q l) (wave.inside k q l) in
+      record {
+        low = λ p l is.
+            let yes = open_site g site free k p open' l is in
+            let t = there_again g k p l yes.0 in
+            let j = site_on g k p in
+            let back = ap (λ m. had (τ m) (place_of g j)) t.1 ∙ ap (had (τ k)) t.2 in
+            let a = around_le (unused (free k) start (τ k).wave) (on_tiles g (λ i. 1 - toppled g τ i) k) p l unused_le in
+            let b = around_some g (λ i. 1 - toppled g τ i) j t.0 in
+            let b' = ap (λ m. around (on_tiles g (λ i. 1 - toppled g τ i) m) (place_of g j)) t.1
+            ∙ ap (around (on_tiles g (λ i. 1 - toppled g τ i) k)) t.2 in
+            let both = flow-add g (toppled g τ) (λ i. 1 - toppled g τ i) j in
+            let four = flow_four_at_most g (λ i. toppled g τ i + (1 - toppled g τ i))
+            (λ i m. let z = set_is g τ i in omega arith) j t.0 in
+            omega arith;
+        held = λ p l is. on_each g k p (λ (r : (ℕ → ℕ) → ℕ). bit (free k) p ≡ r (λ j. 1 - one_at site j)
+            → bit start p ≡ r (λ j. s * one_at site j) → bit (τ k).wave p ≡ r (toppled g τ)
+            → (bit (free k) p ≡ 0) × (bit (τ k).wave p ≡ 0)) l
+            (λ j m o b i. (grind (arith, nat_tests), grind (arith, nat_tests)))
+            (λ o b i. absurd (omega arith)) (open' k p l) (begins p l) (wave.inside k p l);
+      }
 
--- whatever stabilises the pile leaves no 4 in this tile
-calm : {g : Grid} {site : ℕ} {h free : ℕ → ℕ} {τ : ℕ → Tile} {away : ℕ → ℕ → ℕ} (k start s : ℕ) (w : ℕ → ℕ)
-    → IsStart g site h free → IsUnderWay g site h τ away → Starts g site s k start → toppled g τ site + s ≤ 1
-    → Stabilises g h w
-    → Calms (τ k) (free k) start (on_tiles g (λ j. w j - toppled g τ j) k)
-calm {g} {site} {h} {free} {τ} {away} k start s w from wave begins first stable =
-    let inside = from.inside in
-    let open' = from.all_open in
-    let below = wave.needed w stable in
-    record {
-      start_in = λ p low.
-          let more = least_action g h (toppled g τ) w site 1 inside stable below in
-          let some : s ≤ w site - toppled g τ site = grind arith in
-          let le = on_tiles_le g (λ j. s * one_at site j) (λ j. w j - toppled g τ j) k p low
-          (λ j l. let e = cases_eq site j in grind (arith, nat_tests)) in
-          omega arith;
-      at_most_three = λ p low is.
-          let yes = open_site g site free k p open' low is in
-          let t = there_again g k p low yes.0 in
-          let j = site_on g k p in
-          let back = ap (λ m. had (τ m) (place_of g j)) t.1 ∙ ap (had (τ k)) t.2 in
-          let r = λ (i : ℕ). w i - toppled g τ i in
-          let some = around_some g r j t.0 in
-          let some' = ap (λ m. around (on_tiles g r m) (place_of g j)) t.1 ∙ ap (around (on_tiles g r k)) t.2 in
-          let here = on_site g r k p yes.0 in
-          let set' = on_site g (toppled g τ) k p yes.0 in
-          let all = flow_same g (λ i. toppled g τ i + r i) w (λ i l. let le = below i l in omega arith) j t.0 in
-          let both = flow-add g (toppled g τ) r j in
-          omega arith;
-    }
+  -- only sites topple in a visit
+  pub newly : {t u : Tile} {start new : ℕ} (k s : ℕ) → Starts g site s k start → Visits t u (free k) start new
+      → (m p : ℕ) → p < 64 → only k (bit new) m p ≡ on_tiles g (at_site g (only k (bit new))) m p
+  unfolding only on_tiles
+  newly {new = new} k s begins visits m p low =
+      on_tiles_is g (only k (bit new)) m p low (λ no. grind (arith, nat_tests))
 
--- whatever stabilises the pile topples the sites that topple in a visit
-pub needed_next : {g : Grid} {site : ℕ} {h free : ℕ → ℕ} {τ : ℕ → Tile} {away : ℕ → ℕ → ℕ} {t : Tile} {k start new : ℕ} (s : ℕ)
-    → IsStart g site h free → IsUnderWay g site h τ away → Starts g site s k start → toppled g τ site + s ≤ 1
-    → Visits (τ k) t (free k) start new → (w : ℕ → ℕ) → Stabilises g h w → (j : ℕ) → j < sites g
-    → toppled g τ j + at_site g (only k (bit new)) j ≤ w j
-unfolding only
-needed_next {g} {site} {h} {free} {τ} {away} {t} {k} {start} {new} s from wave begins first visits w stable j l =
-    let r = λ (i : ℕ). w i - toppled g τ i in
-    let c = calm k start s w from wave begins first stable in
-    let least = visits.least (on_tiles g r k) c (place_of g j) (place_below g j) in
-    let value = at_on g r j l in
-    grind (arith, nat_tests)
+  -- whatever stabilises the pile leaves no 4 in this tile
+  calm : {τ : ℕ → Tile} {away : ℕ → ℕ → ℕ} (k start s : ℕ) (w : ℕ → ℕ) → IsUnderWay g site h τ away
+      → Starts g site s k start → toppled g τ site + s ≤ 1 → Stabilises g h w
+      → Calms (τ k) (free k) start (on_tiles g (λ j. w j - toppled g τ j) k)
+  calm {τ} k start s w wave begins first stable =
+      let inside = from.inside in
+      let open' = from.all_open in
+      let below = wave.needed w stable in
+      record {
+        start_in = λ p low.
+            let more = least_action g h (toppled g τ) w site 1 inside stable below in
+            let some : s ≤ w site - toppled g τ site = grind arith in
+            let le = on_tiles_le g (λ j. s * one_at site j) (λ j. w j - toppled g τ j) k p low
+            (λ j l. let e = cases_eq site j in grind (arith, nat_tests)) in
+            omega arith;
+        at_most_three = λ p low is.
+            let yes = open_site g site free k p open' low is in
+            let t = there_again g k p low yes.0 in
+            let j = site_on g k p in
+            let back = ap (λ m. had (τ m) (place_of g j)) t.1 ∙ ap (had (τ k)) t.2 in
+            let r = λ (i : ℕ). w i - toppled g τ i in
+            let some = around_some g r j t.0 in
+            let some' = ap (λ m. around (on_tiles g r m) (place_of g j)) t.1 ∙ ap (around (on_tiles g r k)) t.2 in
+            let here = on_site g r k p yes.0 in
+            let set' = on_site g (toppled g τ) k p yes.0 in
+            let all = flow_same g (λ i. toppled g τ i + r i) w (λ i l. let le = below i l in omega arith) j t.0 in
+            let both = flow-add g (toppled g τ) r j in
+            omega arith;
+      }
 
--- the grains under way arrive
-pub handed_over : {g : Grid} {site : ℕ} {h free : ℕ → ℕ} {τ σ : ℕ → Tile} {away : ℕ → ℕ → ℕ}
-    → IsStart g site h free → IsUnderWay g site h τ away → Gains free τ σ away → IsUnderWay g site h σ (λ m p. 0)
-handed_over {g} {site} {h} {free} {τ} {σ} {away} from wave gains =
-    let same : (j : ℕ) → toppled g σ j ≡ toppled g τ j =
-    λ j. gains.wave (tile_of g j) (place_of g j) (place_below g j) in
-    let flows = flow_same g (toppled g σ) (toppled g τ) (λ i l. same i) in
-    record {
-      inside = λ m p l.
-          let e = gains.wave m p l in
-          let i = wave.inside m p l in
-          let all = on_each g m p (λ (r : (ℕ → ℕ) → ℕ). r (toppled g σ) ≡ r (toppled g τ)) l (λ j less. same j) refl in
-          omega arith;
-      at_open = λ j l ne.
-          let f = flows j l in
-          let four = flow_four_at_most g (toppled g τ) (λ i m. set_is g τ i) j l in
-          let to = gains.each (tile_of g j) (place_of g j) (place_below g j) (free_at from j l ne) (omega arith) in
-          omega arith;
-      at_held =
-          let to = gains.modulo (tile_of g site) (place_of g site) (place_below g site) in
-          omega arith;
-      needed = λ w stable j l. let e = same j in let le = wave.needed w stable j l in omega arith;
-    }
+  -- whatever stabilises the pile topples the sites that topple in a visit
+  pub needed_next : {τ : ℕ → Tile} {away : ℕ → ℕ → ℕ} {t : Tile} {k start new : ℕ} (s : ℕ) → IsUnderWay g site h τ away
+      → Starts g site s k start → toppled g τ site + s ≤ 1 → Visits (τ k) t (free k) start new → (w : ℕ → ℕ) → Stabilises g h w → (j : ℕ) → j < sites g
+      → toppled g τ j + at_site g (only k (bit new)) j ≤ w j
+  unfolding only
+  needed_next {τ} {k = k} {start = start} s wave begins first visits w stable j l =
+      let r = λ (i : ℕ). w i - toppled g τ i in
+      let c = calm k start s w wave begins first stable in
+      let least = visits.least (on_tiles g r k) c (place_of g j) (place_below g j) in
+      let value = at_on g r j l in
+      grind (arith, nat_tests)
+
+  -- the grains under way arrive
+  pub handed_over : {τ σ : ℕ → Tile} {away : ℕ → ℕ → ℕ} → IsUnderWay g site h τ away → Gains free τ σ away
+      → IsUnderWay g site h σ (λ m p. 0)
+  handed_over {τ} {σ} wave gains =
+      let same : (j : ℕ) → toppled g σ j ≡ toppled g τ j =
+      λ j. gains.wave (tile_of g j) (place_of g j) (place_below g j) in
+      let flows = flow_same g (toppled g σ) (toppled g τ) (λ i l. same i) in
+      record {
+        inside = λ m p l.
+            let e = gains.wave m p l in
+            let i = wave.inside m p l in
+            let all = on_each g m p (λ (r : (ℕ → ℕ) → ℕ). r (toppled g σ) ≡ r (toppled g τ)) l (λ j less. same j) refl in
+            omega arith;
+        at_open = λ j l ne.
+            let f = flows j l in
+            let four = flow_four_at_most g (toppled g τ) (λ i m. set_is g τ i) j l in
+            let to = gains.each (tile_of g j) (place_of g j) (place_below g j) (free_at j l ne) (omega arith) in
+            omega arith;
+        at_held =
+            let to = gains.modulo (tile_of g site) (place_of g site) (place_below g site) in
+            omega arith;
+        needed = λ w stable j l. let e = same j in let le = wave.needed w stable j l in omega arith;
+      }

@@ -36,7 +36,7 @@ pub topple_tile-requires-clause-ready : goal.topple_tile-requires-clause-ready
 topple_tile-requires-clause-ready c =
     let turn = turn_none (free_of c.args.board.now) c.requires.all_open c.requires.rest c.requires.drop.inside in
     let started = turn.started in
-    wave_ready c.args.drop.tile c.set_of.result 1 turn.from turn.wave
+    wave_ready turn.from c.args.drop.tile c.set_of.result 1 turn.wave
     (starts (goal.at.topple_tile-requires-clause-ready c).After-set_of) (omega arith)
 
 pub turns-init : goal.turns-init
