@@ -153,10 +153,8 @@ waves_more {g} {site} more {τ} {σ} {us} {vs} {c} d' {e'} inside waves whole co
     let t = toppled g ω in
     let h = heights_before g site σ in
     let k = heights_now g site more ρ in
-    let same : (j : ℕ) → heights_on g ρ j ≡ heights_on g ω j = λ j.
-    let a = ap (λ x. bit x (place_of g j)) (counts.low (tile_of g j)) in
-    let b = ap (λ x. bit x (place_of g j)) (counts.high (tile_of g j)) in
-    omega arith in
+    let same : (j : ℕ) → heights_on g ρ j ≡ heights_on g ω j =
+    λ j. rw (counts.low (tile_of g j), counts.high (tile_of g j)) in
     let past : HasPassed g site h ω = record {
       inside = inside;
       four = let o = one_at_same site in let z = waves.empty refl in omega arith;
@@ -165,9 +163,7 @@ waves_more {g} {site} more {τ} {σ} {us} {vs} {c} d' {e'} inside waves whole co
       started = started;
       none_due = λ j. whole.none_due (tile_of g j) (place_of g j) (place_below g j);
     } in
-    let test' : more ≡ (ltb 1 (topplings g t) && eqb (heights_on g ω site) 0) =
-    test ∙ ap (λ x. ltb 1 (topplings g t) && eqb x 0) (same site) in
-    let has = held_has more past test' in
+    let has = held_has more past (test ∙ ap (λ x. ltb 1 (topplings g t) && eqb x 0) (same site)) in
     let leaves : Leaves g site h ω k = record {
       others = λ j l ne. let s = same j in grind (arith, nat_tests);
       held = let s = same site in grind (arith, nat_tests);
@@ -189,12 +185,10 @@ waves_more {g} {site} more {τ} {σ} {us} {vs} {c} d' {e'} inside waves whole co
           weight_pays = let a = next.weight_pays in let b = waves.advances.weight_pays in omega arith;
           grains_fall = let a = next.grains_fall in let b = waves.advances.grains_fall in omega arith;
         };
-        counts = λ m p l.
-            let s = on_sum g (grown_on g c d) t (grown_on g c e) m p l sums in
-            omega arith;
+        counts = λ m p l. let s = on_sum g (grown_on g c d) t (grown_on g c e) m p l sums in omega arith;
       },
       omega arith,
-      (omega arith),
+      omega arith,
     )
 
 pub wave_lost : {g : Grid} {site : ℕ} {h : ℕ → ℕ} (ν : ℕ → Tile) {τ : ℕ → Tile} → AreOutside g ν → IsWave g site h τ

@@ -1,5 +1,5 @@
 -- How far a drop has reached.
-use Rattle.std.proofs.Common.{ℕ, true, cond, eqb, ltb, refl, inl, inr, ◌≡◌, ◌≢◌, ◌⊎◌, ◌+◌, ◌*◌, ◌/◌, ◌%◌, ◌^◌, ◌<◌, ◌≤◌, min, max, sym, ◌∙◌, ap, arith, ⊎_elim, subst}
+use Rattle.std.proofs.Common.{ℕ, true, cond, eqb, ltb, refl, inr, ◌≡◌, ◌≢◌, ◌⊎◌, ◌+◌, ◌*◌, ◌/◌, ◌%◌, ◌^◌, ◌<◌, ◌≤◌, min, max, sym, ◌∙◌, ap, arith, ⊎_elim}
 use Rattle.std.specs.Prelude.{bit_xor}
 use Rattle.std.specs.Int.{abs_diff, trailing_zeros}
 use Rattle.std.proofs.Common.{w64}
@@ -19,7 +19,6 @@ use Rattle.sand_fronts.specs.Avalanches.{IsReached}
 use Rattle.sand_fronts.specs.Marking.{AreSites, AreToppled}
 use Rattle.sand_fronts.specs.Tiling.{tile_of, place_of, row_at, column_at, is_site, site_on}
 use Rattle.sand_fronts.proofs.OnTiles.{place_below, back_again, there_again, in_grid, at_on, on_place}
-use Rattle.sand_fronts.proofs.Gained.{cond_each}
 
 -- ---- bounds on the distance of a place of a tile
 
@@ -134,33 +133,20 @@ pub sets_more : {g : Grid} {s : Spot} {words rest : ℕ → ℕ} (next : ℕ →
     → SetsRead g s words rest reach → IsReachedFrom g s (corner_of g k) set reach far → set ≡ rest k
     → ((m : ℕ) → next m ≡ cond (eqb m k) 0 (rest m)) → SetsRead g s words next far
 sets_more {g} {s} {words} {rest} next k {set} {reach} {far} before one is each =
-    let whole : (p : ℕ) → (bit set p ≡ 0) ⊎ (bit set p ≡ bit (words k) p) =
-    λ p. ⊎_elim
-    (λ (none : rest k ≡ 0). inl (ap (λ w. bit w p) (is ∙ none) ∙ bit_none p))
-    (λ (same : rest k ≡ words k). inr (ap (λ w. bit w p) (is ∙ same)))
-    (before.left k) in
     record {
-      left = λ m. subst (λ w. (w ≡ 0) ⊎ (w ≡ words m)) (sym (each m))
-          (cond_each (λ i w. (w ≡ 0) ⊎ (w ≡ words i)) rest k 0 (inl refl) (λ i ne. before.left i) m);
+      left = λ m. let l = before.left m in let e = each m in grind (arith, nat_tests);
       within = λ m p none low has.
-          cond_each (λ i w. w ≡ 0 → bit (words i) p ≡ 1 → distance_within g s (corner_of g i) p ≤ far) rest k 0
-          (λ taken' there. ⊎_elim
-          (λ (z : rest k ≡ 0). let a = before.within k p z low there in omega arith)
-          (λ (same : rest k ≡ words k). one.within p low (ap (λ x. bit x p) (is ∙ same) ∙ there))
-          (before.left k))
-          (λ i ne z there. omega arith) m (sym (each m) ∙ none) has;
+          let l = before.left m in
+          let e = each m in
+          let old = before.within m p in
+          let new = one.within p low in
+          grind (arith, nat_tests);
       reached = λ some. ⊎_elim
           (λ (farther : reach < far).
-          let now = one.reached farther in (
-            k,
-            now.0,
-            now.1,
-            ⊎_elim
-                (λ (z : bit set now.0 ≡ 0). absurd (omega arith))
-                (λ (same : bit set now.0 ≡ bit (words k) now.0). sym same ∙ now.2)
-                (whole now.0),
-            now.3,
-          ))
+          let now = one.reached farther in
+          let l = before.left k in
+          let z = bit_none now.0 in
+          (k, now.0, now.1, grind arith, now.3))
           (λ (not : far ≤ reach).
           let old = before.reached (omega arith) in
           (old.0, old.1, old.2, old.3, omega arith))
