@@ -1,10 +1,10 @@
 -- How far a drop has reached.
-use Rattle.std.proofs.Common.{ℕ, true, cond, eqb, ltb, refl, inr, ◌≡◌, ◌≢◌, ◌⊎◌, ◌+◌, ◌*◌, ◌/◌, ◌%◌, ◌^◌, ◌<◌, ◌≤◌, min, max, sym, ◌∙◌, ap, arith, ⊎_elim}
+use Rattle.std.proofs.Common.{ℕ, true, cond, eqb, ltb, refl, inr, ◌≡◌, ◌≢◌, ◌⊎◌, ◌+◌, ◌*◌, ◌/◌, ◌%◌, ◌^◌, ◌<◌, ◌≤◌, min, max, ◌∙◌, ap, arith, ⊎_elim}
 use Rattle.std.specs.Prelude.{bit_xor}
 use Rattle.std.specs.Int.{abs_diff, trailing_zeros}
 use Rattle.std.proofs.Common.{w64}
 use Rattle.std.proofs.lemmas.Nat.Bits.{bit_at-trailing_zeros}
-use Rattle.std.proofs.lemmas.Bool.{cases_lt, lt-ltb, le-ltb}
+use Rattle.std.proofs.lemmas.Bool.{cases_lt}
 use Rattle.std.proofs.lemmas.Bool.Decides.{nat_tests}
 use Rattle.std.proofs.lemmas.Nat.{div-mul-add, mod-mul-add, mod_below, div_below}
 use Rattle.sand_model.specs.Grid.{Grid, IsGrid, sites, joins, column, row, distance}
@@ -64,8 +64,7 @@ taken rest one some fits is =
 
 pub fewer_left : {rest next place : ℕ} → IsTaken rest next place → sum_below 64 (bit next) < sum_below 64 (bit rest)
 fewer_left {rest} {next} {place} gone =
-    let same = sum_below_same 64 (λ p. bit next p + 1 * one_at place p) (bit rest)
-    (λ p low. omega arith) in
+    let same = sum_below_same 64 (λ p. bit next p + 1 * one_at place p) (bit rest) (λ p low. omega arith) in
     let both = sum_below-add 64 (bit next) (λ p. 1 * one_at place p) in
     let one = sum_below-one_at 64 place (λ p. 1) gone.inside in
     omega arith
@@ -91,12 +90,9 @@ pub reads_more : {g : Grid} {s corner : Spot} {set rest next reach far place : �
 reads_more {g} {s} {corner} {set} {rest} {next} {reach} {far} {place} d now before gone there most = record {
   within_set = λ p low. let a = before.within_set p low in let e = gone.each p low in omega arith;
   grows = let a = before.grows in omega arith;
-  done = λ p low has none.
-      let a = before.done p low has in grind (arith, nat_tests);
+  done = λ p low has none. let a = before.done p low has in grind (arith, nat_tests);
   reached = λ more. ⊎_elim
-      (λ (farther : far < d).
-      let inside = gone.inside in
-      (place, inside, let b = bit_le set place in omega arith, omega arith))
+      (λ (farther : far < d). let b = bit_le set place in (place, gone.inside, omega arith, omega arith))
       (λ (not : d ≤ far). let old = before.reached (omega arith) in (old.0, old.1, old.2, omega arith))
       (cases_lt far d);
 }
@@ -119,13 +115,10 @@ pub record SetsRead (g : Grid) (s : Spot) (words rest : ℕ → ℕ) (reach : �
   pub reached : 0 < reach
       → (m : ℕ) × (p : ℕ) × (p < 64) × (bit (words m) p ≡ 1) × (distance_within g s (corner_of g m) p ≡ reach)
 
-not_in_none : (word p : ℕ) → word ≡ 0 → bit word p ≡ 1 → ⊥
-not_in_none word p none is = let z = ap (λ w. bit w p) none ∙ bit_none p in omega arith
-
 pub sets_begin : (g : Grid) (s : Spot) (words : ℕ → ℕ) → SetsRead g s words words 0
 sets_begin g s words = record {
   left = λ m. inr refl;
-  within = λ m p none low is. absurd (not_in_none (words m) p none is);
+  within = λ m p none low is. let z = bit_none p in grind arith;
   reached = λ some. absurd (omega arith);
 }
 
@@ -176,9 +169,8 @@ distance_at : (g : Grid) (site j k p : ℕ) → j < sites g → tile_of g j ≡ 
     → distance g site j ≡ distance_within g (spot_of g site) (corner_of g k) p
 distance_at g site j k p l tile place =
     let b = back_again g j l in
-    ap (distance g site) (sym b.1) ∙ distance_on g site (tile_of g j) (place_of g j) b.0
-    ∙ ap (λ i. distance_within g (spot_of g site) (corner_of g i) (place_of g j)) tile
-    ∙ ap (distance_within g (spot_of g site) (corner_of g k)) place
+    let d = distance_on g site (tile_of g j) (place_of g j) b.0 in
+    cc
 
 -- a place is in the sets if and only if its site has toppled, so what is within reach of them is so for the sites
 pub all_within : (g : Grid) (site : ℕ) (v : ℕ → ℕ) {words : ℕ → ℕ} {reach : ℕ} → AreToppled g v words
@@ -186,8 +178,7 @@ pub all_within : (g : Grid) (site : ℕ) (v : ℕ → ℕ) {words : ℕ → ℕ}
 all_within g site v {words} {reach} each in_sets j l some =
     let marked = each (tile_of g j) (place_of g j) (place_below g j) in
     let at = at_on g (λ i. one_if (ltb 0 (v i))) j l in
-    let one = ap one_if (lt-ltb 0 (v j) some) in
-    let le = in_sets.within (tile_of g j) (place_of g j) (place_below g j) (omega arith) in
+    let le = in_sets.within (tile_of g j) (place_of g j) (place_below g j) (grind (arith, nat_tests)) in
     let there = distance_at g site j _ _ l refl refl in
     omega arith
 
@@ -199,10 +190,7 @@ some_reached g site v {words} {reach} each in_sets far =
     let p = one.1 in
     on_place g m p (λ (r : (ℕ → ℕ) → ℕ). bit (words m) p ≡ r (λ i. one_if (ltb 0 (v i))) → IsReached g site v reach)
     one.2
-    (λ j l tile place is. ⊎_elim
-    (λ (some : 0 < v j). (j, l, some, distance_at g site j m p l tile place ∙ one.4))
-    (λ (none : v j ≤ 0). absurd (let z = ap one_if (le-ltb 0 (v j) none) in let has = one.3 in omega arith))
-    (cases_lt 0 (v j)))
+    (λ j l tile place is. (j, l, grind (arith, nat_tests), distance_at g site j m p l tile place ∙ one.4))
     (λ no is. absurd (omega arith))
     (each m p one.2)
 

@@ -29,14 +29,15 @@ visited_each c = length-set {A = Tile} c.args.self.now.tiles.items c.args.k c.vi
 pub visit-new-requires : goal.visit-new-requires
 visit-new-requires c = let r = reads (goal.at.visit-new-requires c).After-index in rw (r.0, r.1) c.requires.ready
 
-pub hand_over-requires-clause-beside : goal.hand_over-requires-clause-beside
-hand_over-requires-clause-beside c = rw (c.beside.ensures, visited_each c) c.requires.tile.on_board
-
-pub hand_over-requires-clause-fits : goal.hand_over-requires-clause-fits
-hand_over-requires-clause-fits c = let e = visited_each c in omega (arith, c.requires.board.beside.fits)
-
-pub hand_over-requires-clause-len : goal.hand_over-requires-clause-len
-hand_over-requires-clause-len c = c.requires.board.free_each ∙ sym (visited_each c)
+pub hand_over-requires : goal.hand_over-requires
+hand_over-requires c =
+    let each = visited_each c in
+    record {
+      beside = rw (c.beside.ensures, each) c.requires.tile.on_board;
+      fits = omega (arith, c.requires.board.beside.fits);
+      len = c.requires.board.free_each ∙ sym each;
+      room = c.requires.room;
+    }
 
 pub returns-clause-sand : goal.returns-clause-sand
 returns-clause-sand c = record {
