@@ -5,7 +5,6 @@ use Rattle.std.proofs.lemmas.Bool.{cases_lt}
 use Rattle.std.proofs.lemmas.Bool.Decides.{nat_tests}
 use Rattle.std.proofs.lemmas.List.{get_or_append_left, get_or_push}
 use Rattle.std.proofs.lemmas.Nat.Bits.{bit_at_lowest, bit_at_above, bit_at_ones}
-use Rattle.std.proofs.lemmas.Option.{same_Some, none-some}
 use Rattle.std.proofs.Math.ListN.{get_or-eq_default}
 use Rattle.sand_model.specs.Grid.{Grid}
 use Rattle.sand_tiles.specs.declared.tile.Tile.{Tile}
@@ -43,12 +42,8 @@ put_at_others a b p few low =
 -- ---- the site at a place
 
 told : (b : Bool) (x s : Spot) → cond b (Some x) None ≡ Some s → (b ≡ true) × (x ≡ s)
-told true x s e = (refl, same_Some x s e)
-told false x s e = absurd (none-some s e)
-
-untold : (b : Bool) (x : Spot) → cond b (Some x) None ≡ None → b ≡ false
-untold true x e = absurd (none-some x (sym e))
-untold false x e = refl
+told true x s e = (refl, cc)
+told false x s e = absurd (cc)
 
 abbrev spot_at : Grid → ℕ → ℕ → Spot
 spot_at g k p = record { column = column_at g k p; row = row_at g k p }
@@ -72,7 +67,7 @@ site_number g k p s n post e says h tells =
 
 pub no_number : (g : Grid) (k p : ℕ) (h : ℕ → ℕ) → cond (is_site g k p) (Some (spot_at g k p)) None ≡ None
     → 0 ≡ on_tiles g h k p
-no_number g k p h e = sym (off_site g h k p (untold (is_site g k p) (spot_at g k p) e))
+no_number g k p h e = sym (off_site g h k p (grind arith))
 
 -- ---- one more place of a tile
 
@@ -140,5 +135,4 @@ full_word p low = bit_at_ones 64 p low
 
 pub inner_site : (g : Grid) (k p : ℕ) → IsInner g k → p < 64 → is_site g k p ≡ true
 unfolding is_site
-inner_site g k p inner low =
-    grind (arith, nat_tests)
+inner_site g k p inner low = grind (arith, nat_tests)

@@ -199,10 +199,9 @@ wave_lost {g} {site} {h} ν {τ} outside wave =
     (λ k. sum_below 64 (λ p. on_tiles g (λ j. missing g j * toppled g τ j) k p))
     (λ k l.
     sum_below_same 64 (λ p. number (ν k) p * bit (τ k).wave p) (λ p. on_tiles g (λ j. missing g j * toppled g τ j) k p)
-    (λ p m. ap (λ x. x * bit (τ k).wave p) (outside k p m)
-    ∙ ap (λ x. on_tiles g (missing g) k p * x) (wave.inside k p m)
-    ∙ on_each g k p (λ (r : (ℕ → ℕ) → ℕ). r (missing g) * r (toppled g τ) ≡ r (λ j. missing g j * toppled g τ j)) m
-    (λ j l. refl) refl))
+    (λ p m. rw (outside k p m, wave.inside k p m)
+    (on_each g k p (λ (r : (ℕ → ℕ) → ℕ). r (missing g) * r (toppled g τ) ≡ r (λ j. missing g j * toppled g τ j)) m
+    (λ j l. refl) refl)))
     ∙ sum_on_tiles g (λ j. missing g j * toppled g τ j)
 
 pub lost_more : (g : Grid) (u v w : ℕ → ℕ) → ((j : ℕ) → j < sites g → w j ≡ u j + v j) → lost g w ≡ lost g u + lost g v

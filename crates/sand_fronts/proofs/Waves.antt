@@ -97,9 +97,7 @@ module _ {g : Grid} {site : ℕ} {h free : ℕ → ℕ} (from : IsStart g site h
             let j = site_on g k p in
             let back = ap (λ m. had (τ m) (place_of g j)) t.1 ∙ ap (had (τ k)) t.2 in
             let a = around_le (unused (free k) start (τ k).wave) (on_tiles g (λ i. 1 - toppled g τ i) k) p l unused_le in
-            let b = around_some g (λ i. 1 - toppled g τ i) j t.0 in
-            let b' = ap (λ m. around (on_tiles g (λ i. 1 - toppled g τ i) m) (place_of g j)) t.1
-            ∙ ap (around (on_tiles g (λ i. 1 - toppled g τ i) k)) t.2 in
+            let b = rw (t.1, t.2) at (around_some g (λ i. 1 - toppled g τ i) j t.0) in
             let both = flow-add g (toppled g τ) (λ i. 1 - toppled g τ i) j in
             let four = flow_four_at_most g (λ i. toppled g τ i + (1 - toppled g τ i))
             (λ i m. let z = set_is g τ i in omega arith) j t.0 in
@@ -139,8 +137,7 @@ module _ {g : Grid} {site : ℕ} {h free : ℕ → ℕ} (from : IsStart g site h
             let j = site_on g k p in
             let back = ap (λ m. had (τ m) (place_of g j)) t.1 ∙ ap (had (τ k)) t.2 in
             let r = λ (i : ℕ). w i - toppled g τ i in
-            let some = around_some g r j t.0 in
-            let some' = ap (λ m. around (on_tiles g r m) (place_of g j)) t.1 ∙ ap (around (on_tiles g r k)) t.2 in
+            let some = rw (t.1, t.2) at (around_some g r j t.0) in
             let here = on_site g r k p yes.0 in
             let set' = on_site g (toppled g τ) k p yes.0 in
             let all = flow_same g (λ i. toppled g τ i + r i) w (λ i l. let le = below i l in omega arith) j t.0 in
