@@ -1,4 +1,4 @@
-pub mod Queue
+pub mod SiteLists
 pub mod Spread
 pub mod Underway
 pub mod Records

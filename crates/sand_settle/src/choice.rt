@@ -12,7 +12,7 @@ ghost use Rattle.std.specs.Prelude.{◌≤◌, ◌^◌, IfOk, IfSome, IsSome};
 ghost use Rattle.sand_model.specs.Grid.{IsGrid};
 ghost use Rattle.sand_settle.specs.Rests.{ComesToRest};
 
-use crate::settling::topple_to_rest;
+use crate::queue::topple_to_rest;
 use sand_certify::certified;
 use sand_guess::{Claim, guessed, is_flat, is_high, toppled};
 use sand_model::{Edge, Pile, Shape};

@@ -11,8 +11,9 @@ ghost use Rattle.sand_settle.specs.Settling.{IsSettledRecord};
 
 use crate::choice::is_light;
 use crate::faults::SettleFault;
+use crate::queue::topple_to_rest;
 use crate::settled::sum_of;
-use crate::settling::{settle, topple_to_rest};
+use crate::settling::settle;
 use sand_model::{Pile, Shape, TOPPLING_HEIGHT};
 use std::alloc::{AllocError, Global};
 

@@ -11,6 +11,7 @@ mod faults;
 mod in_place;
 pub mod laws;
 mod one_pile;
+mod queue;
 mod settled;
 mod settling;
 mod spreading;

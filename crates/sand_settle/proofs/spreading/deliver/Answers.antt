@@ -1,5 +1,5 @@
 use Rattle.std.proofs.Common.{◌<◌, ◌+◌, arith, length, get_or}
-use Rattle.sand_settle.proofs.Queue.{joins_one}
+use Rattle.sand_settle.proofs.SiteLists.{joins_one}
 use Rattle.sand_settle.proofs.spreading.deliver.Goals as goal
 
 pub returns-in-Some-clause-joins : goal.returns-in-Some-clause-joins

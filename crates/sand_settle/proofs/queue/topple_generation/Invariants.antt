@@ -4,7 +4,7 @@ use Rattle.sand_model.specs.Sand.{topplings}
 use Rattle.sand_model.specs.Lists.{Lists}
 use Rattle.sand_settle.specs.SiteLists.{may_topple}
 use Rattle.sand_model.specs.Underway.{Advances}
-use Rattle.sand_settle.proofs.settling.topple_generation.Given as goal
+use Rattle.sand_settle.proofs.queue.topple_generation.Given as goal
 
 abbrev pub invariant-loop-position : goal.invariant-loop-position
 invariant-loop-position l = record {

@@ -1,7 +1,7 @@
 use Rattle.std.proofs.Common.{◌≡◌, get_or}
 use Rattle.sand_model.specs.Lists.{Lists}
 use Rattle.sand_settle.specs.SiteLists.{may_topple}
-use Rattle.sand_settle.proofs.settling.list_unstable.Given as goal
+use Rattle.sand_settle.proofs.queue.list_unstable.Given as goal
 
 abbrev pub invariant-loop-site : goal.invariant-loop-site
 invariant-loop-site l = record {

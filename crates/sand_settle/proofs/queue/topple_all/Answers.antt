@@ -4,10 +4,10 @@ use Rattle.sand_model.specs.Grid.{sites}
 use Rattle.sand_model.specs.Sand.{topplings, weight}
 use Rattle.sand_model.proofs.Lists.{lists_of}
 use Rattle.sand_model.specs.IndexLists.{ListView}
-use Rattle.sand_settle.proofs.Queue.{all_low}
+use Rattle.sand_settle.proofs.SiteLists.{all_low}
 use Rattle.sand_settle.proofs.Underway.{advance_more, sum_falls, few_at_first, settled_at_last, zero_at}
-use Rattle.sand_settle.proofs.settling.topple_all.Goals.{After-fill}
-use Rattle.sand_settle.proofs.settling.topple_all.Goals as goal
+use Rattle.sand_settle.proofs.queue.topple_all.Goals.{After-fill}
+use Rattle.sand_settle.proofs.queue.topple_all.Goals as goal
 
 uncounted : (c : After-fill) → (j : ℕ) → get_or c.fill.new.self j 0 ≡ 0
 uncounted c j = zero_at (length c.args.counts.now) j _ (c.fill.ensures.after (λ y e. e))

@@ -4,7 +4,7 @@ use Rattle.sand_model.specs.Sand.{topplings, weight}
 use Rattle.sand_model.specs.Lists.{Lists}
 use Rattle.sand_settle.specs.SiteLists.{may_topple}
 use Rattle.sand_model.specs.Underway.{Advances}
-use Rattle.sand_settle.proofs.settling.topple_all.Given as goal
+use Rattle.sand_settle.proofs.queue.topple_all.Given as goal
 
 abbrev pub invariant-generations : goal.invariant-generations
 invariant-generations l = record {

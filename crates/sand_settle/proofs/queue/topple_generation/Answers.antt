@@ -10,9 +10,9 @@ use Rattle.sand_model.proofs.Lists.{lists_of}
 use Rattle.sand_model.proofs.IndexLists.{waiting_behind}
 use Rattle.sand_model.specs.IndexLists.{ListView}
 use Rattle.sand_settle.proofs.Spread.{toppled_times}
-use Rattle.sand_settle.proofs.Queue.{turn_inside, turn_high, others_wait, queue_room}
+use Rattle.sand_settle.proofs.SiteLists.{turn_inside, turn_high, others_wait, queue_room}
 use Rattle.sand_settle.proofs.Underway.{advance_more, advance_turn, turn_counts, counts_small, sum_falls}
-use Rattle.sand_settle.proofs.settling.topple_generation.Goals as goal
+use Rattle.sand_settle.proofs.queue.topple_generation.Goals as goal
 
 pub loop-position-init : goal.loop-position-init
 loop-position-init c = record {
