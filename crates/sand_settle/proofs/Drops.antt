@@ -2,90 +2,68 @@
 use Rattle.std.proofs.Common.{ℕ, ◌≡◌, ◌+◌, ◌-◌, ◌*◌, ◌<◌, ◌≤◌, ◌^◌, refl, sym, ◌∙◌, ap, subst, arith, List, [], ◌∷◌, ◌++◌, length, sum, get_or, append_assoc, Option, Some}
 use Rattle.std.proofs.lemmas.List.{length-append, append-nil}
 use Rattle.std.proofs.lemmas.List.Elements.{All-push}
-use Rattle.sand_model.specs.Grid.{Grid, IsGrid, sites, missing}
+use Rattle.sand_model.specs.Grid.{Grid, sites, missing}
 use Rattle.sand_model.specs.Sand.{occurrences, one_at, IsSettled, grains, topplings, lost, weight, grain_weight}
-use Rattle.sand_model.specs.Piles.{PileView, IsPile, most_grains}
+use Rattle.sand_model.specs.Piles.{PileView, IsPile, height_of, most_grains}
 use Rattle.sand_model.proofs.SumsBelow.{sum_below-add, sum_below_same}
 use Rattle.sand_model.proofs.Occurrences.{occurrences-push}
 use Rattle.sand_model.proofs.Sandpile.{laplacian_sum, weight_after, settled_in_parts, settled_same, settled_stable}
 use Rattle.sand_model.proofs.Heights.{sum_is_grains}
-use Rattle.sand_model.proofs.Bounds.{weight_bound, topplings_bound, at_most_sum_below}
+use Rattle.sand_model.proofs.Bounds.{weight_bound, at_most_sum_below}
 use Rattle.sand_fronts.specs.TiledPiles.{TiledView}
-use Rattle.sand_settle.specs.Settling.{SettledView, IsSettledRecord, IsSomeSettledRecord}
+use Rattle.sand_settle.specs.Settling.{SettledView, IsSettledRecord, IsSomeSettledRecord, odometer_of}
 use Rattle.sand_settle.specs.Drops.{OneView, IsAfter, topplings_between, TakesGrain, Drops, DropsAll, IsPaid, one_view, IsOnTiles, IsOnePile}
-use Rattle.sand_settle.proofs.Underway.{topplings_at}
 use Rattle.sand_settle.specs.Avalanches.{Avalanche, IsAvalanche}
+use Rattle.sand_settle.proofs.OneRecord.{record_by_site}
+use Rattle.sand_settle.proofs.Underway.{topplings_at}
 pub use Rattle.sand_fronts.proofs.OnPiles.{avalanche_same}
 
-pub lost_sum : (g : Grid) (u v w : ℕ → ℕ) → ((j : ℕ) → j < sites g → w j ≡ u j + v j) → lost g w ≡ lost g u + lost g v
+lost_sum : (g : Grid) (u v w : ℕ → ℕ) → ((j : ℕ) → j < sites g → w j ≡ u j + v j) → lost g w ≡ lost g u + lost g v
 lost_sum g u v w e =
     sum_below_same (sites g) (λ j. missing g j * w j) (λ j. missing g j * u j + missing g j * v j)
     (λ j l. let k = ap (λ m. missing g j * m) (e j l) in omega arith)
     ∙ sum_below-add (sites g) (λ j. missing g j * u j) (λ j. missing g j * v j)
 
 -- the grains on a settled pile and those lost are the grains of its start
-pub grains_kept : (g : Grid) (s : ℕ → ℕ) (r : SettledView) → IsSettledRecord g s r → sum r.pile.heights + r.lost ≡ grains g s
-grains_kept g s r done =
-    let all = laplacian_sum g s (λ j. get_or r.odometer j 0) (λ j. get_or r.pile.heights j 0) done.settled.toppled in
+pub grains_kept : {g : Grid} {s : ℕ → ℕ} {r : SettledView} → IsSettledRecord g s r
+    → sum r.pile.heights + r.lost ≡ grains g s
+grains_kept {g} {s} {r} done =
+    let all = laplacian_sum g s (odometer_of r) (height_of r.pile) done.settled.toppled in
     let after = sum_is_grains g r.pile.heights done.heights_each in
     let gone = done.all_lost in
     omega arith
 
 -- ---- the record of a start
 
-paid_here : (s : ℕ → ℕ) (r : SettledView) → IsGrid r.pile.grid
-    → grains r.pile.grid s ≤ most_grains → IsSettledRecord r.pile.grid s r → IsPaid r
-paid_here s r sides few done =
-    let kept = grains_kept r.pile.grid s r done in
+pub paid_start : {start : PileView} {r : SettledView} → IsPile start → IsSettledRecord start.grid (height_of start) r
+    → IsPaid r
+paid_start {start} {r} pile done =
+    let g = start.grid in
+    let kept = grains_kept done in
+    let whole = sum_is_grains g start.heights pile.len in
     record {
-      sides = sides;
-      heights_each = done.heights_each;
-      odometer_each = done.odometer_each;
-      stable = settled_stable r.pile.grid s (λ j. get_or r.odometer j 0) (λ j. get_or r.pile.heights j 0) done.settled;
-      limit = omega arith;
-      all_topplings = done.all_topplings;
+      sides = rw done.grid pile.grid;
+      heights_each = rw done.grid done.heights_each;
+      odometer_each = rw done.grid done.odometer_each;
+      stable = rw done.grid (settled_stable g (height_of start) (odometer_of r) (height_of r.pile) done.settled);
+      limit = omega (arith, pile.limit);
+      all_topplings = rw done.grid done.all_topplings;
       paid =
-          let falls = weight_after r.pile.grid s (λ j. get_or r.odometer j 0)
-          (λ j. get_or r.pile.heights j 0) done.settled.toppled in
-          let start = weight_bound r.pile.grid s sides in
-          let all = done.all_topplings in
-          omega arith;
+          let falls = weight_after g (height_of start) (odometer_of r) (height_of r.pile) done.settled.toppled in
+          let heavy = weight_bound g (height_of start) pile.grid in
+          rw done.grid (omega (arith, done.all_topplings));
     }
 
-paid_record : (g : Grid) (s : ℕ → ℕ) (r : SettledView) → IsGrid g → grains g s ≤ most_grains → IsSettledRecord g s r → IsPaid r
-paid_record g s r sides few done =
-    let P : Grid → Type 0 = λ h. IsGrid h → grains h s ≤ most_grains → IsSettledRecord h s r → IsPaid r in
-    subst P done.grid (paid_here s r) sides few done
-
-pub paid_start : (start : PileView) (r : SettledView) → IsPile start
-    → IsSettledRecord start.grid (λ j. get_or start.heights j 0) r → IsPaid r
-paid_start start r pile done =
-    paid_record start.grid (λ j. get_or start.heights j 0) r pile.grid
-    (let e = sum_is_grains start.grid start.heights pile.len in let limit = pile.limit in omega arith) done
-
-pub after_start : (start : PileView) (r : SettledView) → IsPile start
-    → IsSettledRecord start.grid (λ j. get_or start.heights j 0) r
-    → IsAfter start [] (record { settled = r; number = 0; grains = sum r.pile.heights + r.lost })
-after_start start r pile done = record {
+pub after_start : {start : PileView} {r : SettledView} → IsPile start → IsSettledRecord start.grid (height_of start) r
+    → IsAfter start [] (one_view r 0)
+after_start {start} {r} pile done = record {
   start_pile = pile;
   all_sites = λ k d l. absurd (omega arith);
-  limit = let limit = pile.limit in omega arith;
-  settled = record {
-    grid = done.grid;
-    heights_each = done.heights_each;
-    odometer_each = done.odometer_each;
-    settled = settled_same start.grid (λ j. get_or start.heights j 0)
-        (λ j. get_or start.heights j 0 + occurrences [] j) (λ j. get_or r.odometer j 0)
-        (λ j. get_or r.odometer j 0) (λ j. get_or r.pile.heights j 0) (λ j. get_or r.pile.heights j 0)
-        (λ i l. omega arith) (λ i l. refl) (λ i l. refl) done.settled;
-    all_topplings = done.all_topplings;
-    all_lost = done.all_lost;
-  };
+  limit = omega (arith, pile.limit);
+  settled = record_by_site start.grid (height_of start) (λ j. height_of start j + occurrences [] j) r
+      (λ i l. omega arith) done;
   number = refl;
-  grains =
-      let kept = grains_kept start.grid (λ j. get_or start.heights j 0) r done in
-      let e = sum_is_grains start.grid start.heights pile.len in
-      omega arith;
+  grains = omega (arith, grains_kept done, sum_is_grains start.grid start.heights pile.len);
 }
 
 -- ---- one more grain
@@ -100,145 +78,109 @@ weight-add g a b =
     (λ i. a i * grain_weight g i + b i * grain_weight g i) (λ i l. omega arith)
     ∙ sum_below-add (sites g) (λ i. a i * grain_weight g i) (λ i. b i * grain_weight g i)
 
-pub grains_after : (r q : SettledView) (site : ℕ) → IsPaid r → site < sites r.pile.grid → TakesGrain r site q
+pub grains_after : {r q : SettledView} {site : ℕ} → IsPaid r → site < sites r.pile.grid → TakesGrain r site q
     → sum q.pile.heights + q.lost ≡ sum r.pile.heights + r.lost + 1
-grains_after r q site paid inside taken =
-    let all = laplacian_sum r.pile.grid (λ j. get_or r.pile.heights j 0 + one_at site j)
-    (topplings_between r q) (λ j. get_or q.pile.heights j 0) taken.settled.toppled in
-    let both = sum_below-add (sites r.pile.grid) (λ j. get_or r.pile.heights j 0) (one_at site) in
-    let one = one_grain r.pile.grid site inside in
-    let first = sum_is_grains r.pile.grid r.pile.heights paid.heights_each in
-    let last = sum_is_grains r.pile.grid q.pile.heights taken.heights_each in
-    let gone = taken.more_lost in
-    omega arith
+grains_after {r} {q} {site} paid inside taken =
+    let g = r.pile.grid in
+    let all = laplacian_sum g (λ j. height_of r.pile j + one_at site j) (topplings_between r q) (height_of q.pile)
+    taken.settled.toppled in
+    let both = sum_below-add (sites g) (height_of r.pile) (one_at site) in
+    let one = one_grain g site inside in
+    let first = sum_is_grains g r.pile.heights paid.heights_each in
+    let last = sum_is_grains g q.pile.heights taken.heights_each in
+    omega (arith, taken.more_lost)
 
-topplings_after : (r q : SettledView) (site : ℕ) → IsPaid r → TakesGrain r site q
-    → q.topplings ≡ topplings r.pile.grid (λ j. get_or q.odometer j 0)
-topplings_after r q site paid taken =
-    let same = sum_below_same (sites r.pile.grid)
-    (λ j. get_or q.odometer j 0)
-    (λ j. get_or r.odometer j 0 + topplings_between r q j)
-    (λ j l. let rises = taken.never_falls j in omega arith) in
-    let both = sum_below-add (sites r.pile.grid) (λ j. get_or r.odometer j 0) (topplings_between r q) in
-    let before = paid.all_topplings in
-    let more = taken.more_topplings in
-    omega arith
+topplings_after : {r q : SettledView} {site : ℕ} → r.topplings ≡ topplings r.pile.grid (odometer_of r)
+    → TakesGrain r site q → q.topplings ≡ topplings r.pile.grid (odometer_of q)
+topplings_after {r} {q} before taken =
+    let same = sum_below_same (sites r.pile.grid) (odometer_of q) (λ j. odometer_of r j + topplings_between r q j)
+    (λ j l. omega (arith, taken.never_falls j)) in
+    let both = sum_below-add (sites r.pile.grid) (odometer_of r) (topplings_between r q) in
+    omega (arith, taken.more_topplings)
 
-weight_left : (r q : SettledView) (site : ℕ) → IsPaid r → site < sites r.pile.grid → TakesGrain r site q
-    → 2 * q.topplings + weight r.pile.grid (λ j. get_or q.pile.heights j 0) ≤ 16512 * (sum q.pile.heights + q.lost)
-weight_left r q site paid inside taken =
-    let falls = weight_after r.pile.grid (λ j. get_or r.pile.heights j 0 + one_at site j)
-    (topplings_between r q) (λ j. get_or q.pile.heights j 0) taken.settled.toppled in
-    let both = weight-add r.pile.grid (λ j. get_or r.pile.heights j 0) (one_at site) in
-    let one = weight_bound r.pile.grid (one_at site) paid.sides in
-    let grain = one_grain r.pile.grid site inside in
-    let more = taken.more_topplings in
-    let before = paid.paid in
-    let grains' = grains_after r q site paid inside taken in
-    omega arith
-
-pub paid_after : (r q : SettledView) (site : ℕ) → IsPaid r
-    → site < sites r.pile.grid → sum r.pile.heights + r.lost < most_grains
-    → TakesGrain r site q → IsPaid q
-paid_after r q site paid inside room taken =
-    let same = taken.grid in
+pub paid_after : {r q : SettledView} {site : ℕ} → IsPaid r → site < sites r.pile.grid
+    → sum r.pile.heights + r.lost < most_grains → TakesGrain r site q → IsPaid q
+paid_after {r} {q} {site} paid inside room taken =
+    let g = r.pile.grid in
+    let s : ℕ → ℕ = λ j. height_of r.pile j + one_at site j in
+    let more = grains_after paid inside taken in
     record {
-      sides = rw same paid.sides;
-      heights_each = rw same taken.heights_each;
-      odometer_each = rw same taken.odometer_each;
-      stable = rw same (settled_stable r.pile.grid (λ j. get_or r.pile.heights j 0 + one_at site j)
-          (topplings_between r q) (λ j. get_or q.pile.heights j 0) taken.settled);
-      limit = let e = grains_after r q site paid inside taken in omega arith;
-      all_topplings = rw same (topplings_after r q site paid taken);
-      paid = rw same (weight_left r q site paid inside taken);
+      sides = rw taken.grid paid.sides;
+      heights_each = rw taken.grid taken.heights_each;
+      odometer_each = rw taken.grid taken.odometer_each;
+      stable = rw taken.grid (settled_stable g s (topplings_between r q) (height_of q.pile) taken.settled);
+      limit = omega arith;
+      all_topplings = rw taken.grid (topplings_after paid.all_topplings taken);
+      paid =
+          let falls = weight_after g s (topplings_between r q) (height_of q.pile) taken.settled.toppled in
+          let both = weight-add g (height_of r.pile) (one_at site) in
+          let one = weight_bound g (one_at site) paid.sides in
+          let grain = one_grain g site inside in
+          rw taken.grid (omega (arith, taken.more_topplings, paid.paid));
     }
 
 -- ---- from a start and its drops to one more drop
 
 -- a grain dropped on the settled pile of some heights leads to the record of these heights and the grain
-record_of_more : (g : Grid) (s : ℕ → ℕ) (site : ℕ) (r q : SettledView) → IsSettledRecord g s r → TakesGrain r site q
-    → IsSettledRecord g (λ j. s j + one_at site j) q
-record_of_more g s site r q before taken =
-    let P : Grid → Type 0 = λ h. IsSettled h (λ j. get_or r.pile.heights j 0 + one_at site j)
-    (topplings_between r q) (λ j. get_or q.pile.heights j 0) in
-    let here = subst P before.grid taken.settled in
-    let counts : (j : ℕ) → get_or q.odometer j 0 ≡ get_or r.odometer j 0 + topplings_between r q j =
-    λ j. let rises = taken.never_falls j in omega arith in
+record_of_more : (s : ℕ → ℕ) {site : ℕ} {r q : SettledView} → IsSettledRecord r.pile.grid s r → TakesGrain r site q
+    → IsSettledRecord r.pile.grid (λ j. s j + one_at site j) q
+record_of_more s {site} {r} {q} before taken =
+    let g = r.pile.grid in
+    let more : ℕ → ℕ = λ j. s j + one_at site j in
+    let sum_of : ℕ → ℕ = λ j. odometer_of r j + topplings_between r q j in
+    let counts : (j : ℕ) → odometer_of q j ≡ sum_of j = λ j. omega (arith, taken.never_falls j) in
     record {
-      grid = taken.grid ∙ before.grid;
-      heights_each = taken.heights_each ∙ ap sites before.grid;
-      odometer_each = taken.odometer_each ∙ ap sites before.grid;
-      settled = settled_same g (λ j. s j + one_at site j) (λ j. s j + one_at site j)
-          (λ j. get_or r.odometer j 0 + topplings_between r q j) (λ j. get_or q.odometer j 0)
-          (λ j. get_or q.pile.heights j 0) (λ j. get_or q.pile.heights j 0)
+      grid = taken.grid;
+      heights_each = taken.heights_each;
+      odometer_each = taken.odometer_each;
+      settled = settled_same g more more sum_of (odometer_of q) (height_of q.pile) (height_of q.pile)
           (λ i l. refl) (λ i l. sym (counts i)) (λ i l. refl)
-          (settled_in_parts g s (one_at site) (λ j. get_or r.odometer j 0) (λ j. get_or r.pile.heights j 0)
-          (topplings_between r q) (λ j. get_or q.pile.heights j 0) before.settled here);
-      all_topplings =
-          let same = sum_below_same (sites g) (λ j. get_or q.odometer j 0)
-          (λ j. get_or r.odometer j 0 + topplings_between r q j) (λ j l. counts j) in
-          let both = sum_below-add (sites g) (λ j. get_or r.odometer j 0) (topplings_between r q) in
-          let old = before.all_topplings in
-          let more = taken.more_topplings ∙ ap (λ h. r.topplings + topplings h (topplings_between r q)) before.grid in
-          omega arith;
+          (settled_in_parts g s (one_at site) (odometer_of r) (height_of r.pile)
+          (topplings_between r q) (height_of q.pile) before.settled taken.settled);
+      all_topplings = topplings_after before.all_topplings taken;
       all_lost =
-          let both = lost_sum g (λ j. get_or r.odometer j 0)
-          (topplings_between r q) (λ j. get_or q.odometer j 0) (λ j l. counts j) in
-          let old = before.all_lost in
-          let more = taken.more_lost ∙ ap (λ h. r.lost + lost h (topplings_between r q)) before.grid in
-          omega arith;
+          let both = lost_sum g (odometer_of r) (topplings_between r q) (odometer_of q) (λ j l. counts j) in
+          omega (arith, before.all_lost, taken.more_lost);
     }
 
-pub some_record_after : (r q : SettledView) (site : ℕ) → IsSomeSettledRecord r → TakesGrain r site q → IsSomeSettledRecord q
-some_record_after r q site (s, before) taken =
+pub some_record_after : {r q : SettledView} {site : ℕ} → IsSomeSettledRecord r → TakesGrain r site q
+    → IsSomeSettledRecord q
+some_record_after {r} {q} {site} (s, before) taken =
     let P : Grid → Type 0 = λ g. IsSettledRecord g (λ j. s j + one_at site j) q in
-    (λ j. s j + one_at site j, subst P (sym taken.grid) (record_of_more r.pile.grid s site r q before taken))
+    (λ j. s j + one_at site j, subst P (sym taken.grid) (record_of_more s before taken))
 
 -- from the record of the start and the grains so far to the record with one more grain
 record_after : (g : Grid) (s : ℕ → ℕ) (history : List ℕ) (site : ℕ) (r q : SettledView)
     → IsSettledRecord g (λ j. s j + occurrences history j) r → TakesGrain r site q
     → IsSettledRecord g (λ j. s j + occurrences (history ++ site ∷ []) j) q
 record_after g s history site r q before taken =
-    let more = record_of_more g (λ j. s j + occurrences history j) site r q before taken in
-    record {
-      grid = more.grid;
-      heights_each = more.heights_each;
-      odometer_each = more.odometer_each;
-      settled = settled_same g (λ j. s j + occurrences history j + one_at site j)
-          (λ j. s j + occurrences (history ++ site ∷ []) j) (λ j. get_or q.odometer j 0)
-          (λ j. get_or q.odometer j 0) (λ j. get_or q.pile.heights j 0) (λ j. get_or q.pile.heights j 0)
-          (λ i l. let e = occurrences-push history site i in omega arith) (λ i l. refl) (λ i l. refl) more.settled;
-      all_topplings = more.all_topplings;
-      all_lost = more.all_lost;
-    }
+    let t : ℕ → ℕ = λ j. s j + occurrences history j in
+    let P : Grid → Type 0 = λ h. IsSettledRecord h t r → IsSettledRecord h (λ j. t j + one_at site j) q in
+    record_by_site g (λ j. t j + one_at site j) (λ j. s j + occurrences (history ++ site ∷ []) j) q
+    (λ i l. omega (arith, occurrences-push history site i))
+    (subst P before.grid (λ done. record_of_more t done taken) before)
 
 pub after_drop : (start : PileView) (history : List ℕ) (site : ℕ) (v w : OneView)
     → Drops v site w → IsAfter start history v
     → IsAfter start (history ++ site ∷ []) w
 after_drop start history site v w drop after =
     let longer = length-append history (site ∷ []) in
-    let room = drop.room in
-    let old = after.grains in
     let sites_are = ap sites after.settled.grid in
     record {
       start_pile = after.start_pile;
-      all_sites =
-          All-push (λ j. j < sites start.grid) history site after.all_sites (let l = drop.inside in omega arith);
-      limit = omega arith;
-      settled = record_after start.grid (λ j. get_or start.heights j 0)
+      all_sites = All-push (λ j. j < sites start.grid) history site after.all_sites (omega (arith, drop.inside));
+      limit = omega (arith, drop.room, after.grains);
+      settled = record_after start.grid (height_of start)
           history site v.settled w.settled after.settled drop.settled;
-      number = let more = drop.number in let e = after.number in omega arith;
-      grains = let more = drop.grains in omega arith;
+      number = omega (arith, drop.number, after.number);
+      grains = omega (arith, drop.grains, after.grains);
     }
 
 all_after : (start : PileView) (past history : List ℕ) (v w : OneView) → IsAfter start past v → DropsAll v history w
     → IsAfter start (past ++ history) w
-all_after start past [] v w after same =
-    let P : OneView → Type 0 = λ u. IsAfter start past u in
-    rw append-nil (subst P same after)
+all_after start past [] v w after same = rw append-nil (subst (IsAfter start past) same after)
 all_after start past (site ∷ history) v w after (u, first, rest) =
-    let P : List ℕ → Type 0 = λ h. IsAfter start h w in
-    subst P (append_assoc past (site ∷ []) history)
+    subst (λ h. IsAfter start h w) (append_assoc past (site ∷ []) history)
     (all_after start (past ++ site ∷ []) history u w (after_drop start past site v u first after) rest)
 
 pub drops_add_up : (start : PileView) (history : List ℕ) (v w : OneView) → IsAfter start [] v → DropsAll v history w
@@ -247,17 +189,21 @@ drops_add_up start history v w after drops = all_after start [] history v w afte
 
 -- ---- a drop in the code
 
--- a grain at the site turns the record r into the heights k and the odometer new, with the avalanche a
+-- the record r with the heights k and the odometer new, which an avalanche has left
+abbrev pub poured : SettledView → List ℕ → List ℕ → Avalanche → SettledView
+poured r k new a = record {
+  pile = record { grid = r.pile.grid; heights = k };
+  odometer = new;
+  topplings = r.topplings + a.size;
+  lost = r.lost + a.lost;
+}
+
+-- a grain at the site sets off the avalanche a, which leads from the record r to the heights k and the odometer new
 pub record Pours (r : SettledView) (site : ℕ) (k new : List ℕ) (a : Avalanche) : Type 0 where
-  pub paid : IsPaid r
-  pub inside : site < sites r.pile.grid
-  pub room : sum r.pile.heights + r.lost < most_grains
-  pub heights_each : length k ≡ sites r.pile.grid
-  pub odometer_each : length new ≡ sites r.pile.grid
-  pub never_falls : (j : ℕ) → get_or r.odometer j 0 ≤ get_or new j 0
-  pub settled : IsSettled r.pile.grid (λ j. get_or r.pile.heights j 0 + one_at site j)
-      (λ j. get_or new j 0 - get_or r.odometer j 0) (λ j. get_or k j 0)
-  pub avalanche : IsAvalanche r.pile.grid site (λ j. get_or new j 0 - get_or r.odometer j 0) a
+  pub taken : TakesGrain r site (poured r k new a)
+  pub avalanche : IsAvalanche r.pile.grid site (topplings_between r (poured r k new a)) a
+  pub paid : IsPaid (poured r k new a)
+  pub grains : sum k + a.lost ≡ sum r.pile.heights + 1
 
 pub pours : (r : SettledView) (site : ℕ) (g : Grid) (h k old new : List ℕ) (a : Avalanche)
     → IsPaid r → site < sites r.pile.grid
@@ -267,111 +213,60 @@ pub pours : (r : SettledView) (site : ℕ) (g : Grid) (h k old new : List ℕ) (
     → IsSettled g (λ j. get_or h j 0 + one_at site j) (λ j. get_or new j 0 - get_or old j 0) (λ j. get_or k j 0)
     → IsAvalanche g site (λ j. get_or new j 0 - get_or old j 0) a
     → Pours r site k new a
-pours r site g h k old new a paid inside room grids list same heights counts rises done set_off =
-    let P : Grid → Type 0 =
-    λ q. IsSettled q (λ j. get_or h j 0 + one_at site j) (λ j. get_or new j 0 - get_or old j 0) (λ j. get_or k j 0) in
-    let Q : List ℕ → Type 0 = λ u. IsSettled r.pile.grid (λ j. get_or h j 0 + one_at site j)
-    (λ j. get_or new j 0 - get_or u j 0) (λ j. get_or k j 0) in
-    let R : List ℕ → Type 0 = λ s. IsSettled r.pile.grid (λ j. get_or s j 0 + one_at site j)
-    (λ j. get_or new j 0 - get_or r.odometer j 0) (λ j. get_or k j 0) in
-    let S : Grid → Type 0 = λ q. IsAvalanche q site (λ j. get_or new j 0 - get_or old j 0) a in
-    let T : List ℕ → Type 0 = λ u. IsAvalanche r.pile.grid site (λ j. get_or new j 0 - get_or u j 0) a in
-    let U : List ℕ → Type 0 = λ u. (j : ℕ) → get_or u j 0 ≤ get_or new j 0 in
-    record {
-      paid = paid;
-      inside = inside;
-      room = room;
+pours r site g h k old new a paid inside room grid list same heights counts rises done set_off =
+    let fall : IsAvalanche r.pile.grid site (topplings_between r (poured r k new a)) a = rw (grid, same) at set_off in
+    let taken : TakesGrain r site (poured r k new a) = record {
+      grid = refl;
       heights_each = heights ∙ ap length list ∙ paid.heights_each;
       odometer_each = counts ∙ ap length same ∙ paid.odometer_each;
-      never_falls = subst U same rises;
-      settled = subst R list (subst Q same (subst P grids done));
-      avalanche = subst T same (subst S grids set_off);
+      never_falls = rw same at rises;
+      settled = rw (grid, list, same) at done;
+      more_topplings = ap (λ m. r.topplings + m) fall.size;
+      more_lost = ap (λ m. r.lost + m) fall.all_lost;
+    } in
+    record {
+      taken = taken;
+      avalanche = fall;
+      paid = paid_after paid inside room taken;
+      grains = omega (arith, grains_after paid inside taken);
     }
+
+pub poured_is : (r : SettledView) (a : Avalanche) {q : SettledView} {k new : List ℕ}
+    → q.pile.grid ≡ r.pile.grid → q.pile.heights ≡ k
+    → q.odometer ≡ new → q.topplings ≡ r.topplings + a.size → q.lost ≡ r.lost + a.lost → poured r k new a ≡ q
+poured_is r a grid heights counts more gone = sym (λ i. record {
+  pile = record { grid = grid i; heights = heights i };
+  odometer = counts i;
+  topplings = more i;
+  lost = gone i;
+})
 
 -- no site has toppled often
-pub few_so_far : (r : SettledView) (u : List ℕ) → IsPaid r → u ≡ r.odometer → (j : ℕ) → j < sites r.pile.grid
+pub few_so_far : {r : SettledView} (u : List ℕ) → IsPaid r → u ≡ r.odometer → (j : ℕ) → j < sites r.pile.grid
     → get_or u j 0 < 2 ^ 59
-few_so_far r u paid same j inside =
-    let part = at_most_sum_below (sites r.pile.grid) (λ i. get_or r.odometer i 0) j inside in
-    let all = paid.all_topplings in
-    let pays = paid.paid in
-    let limit = paid.limit in
+few_so_far {r} u paid same j inside =
+    let part = at_most_sum_below (sites r.pile.grid) (odometer_of r) j inside in
     let here = ap (λ xs. get_or xs j 0) same in
-    omega arith
-
--- the grains on the pile after the drop and those lost are those before and the new one
-pub poured_sum : (r : SettledView) (site : ℕ) (k new : List ℕ) (a : Avalanche) → Pours r site k new a
-    → sum k + a.lost ≡ sum r.pile.heights + 1
-poured_sum r site k new a all =
-    let falls = laplacian_sum r.pile.grid (λ j. get_or r.pile.heights j 0 + one_at site j)
-    (λ j. get_or new j 0 - get_or r.odometer j 0) (λ j. get_or k j 0) all.settled.toppled in
-    let both = sum_below-add (sites r.pile.grid) (λ j. get_or r.pile.heights j 0) (one_at site) in
-    let one = one_grain r.pile.grid site all.inside in
-    let first = sum_is_grains r.pile.grid r.pile.heights all.paid.heights_each in
-    let last = sum_is_grains r.pile.grid k all.heights_each in
-    let gone = all.avalanche.all_lost in
-    omega arith
-
-pub poured_size : (r : SettledView) (site : ℕ) (k new : List ℕ) (a : Avalanche) → Pours r site k new a
-    → r.topplings + a.size < 2 ^ 64
-poured_size r site k new a all =
-    let both = sum_below-add (sites r.pile.grid) (λ j. get_or r.pile.heights j 0) (one_at site) in
-    let one = one_grain r.pile.grid site all.inside in
-    let first = sum_is_grains r.pile.grid r.pile.heights all.paid.heights_each in
-    let room = all.room in
-    let few = topplings_bound r.pile.grid (λ j. get_or r.pile.heights j 0 + one_at site j)
-    (λ j. get_or new j 0 - get_or r.odometer j 0) (λ j. get_or k j 0)
-    all.paid.sides (omega arith) all.settled.toppled in
-    let before = all.paid.paid in
-    let size = all.avalanche.size in
-    omega arith
-
-pub poured_record : (r : SettledView) (site : ℕ) (k new : List ℕ) (a : Avalanche) (q : SettledView)
-    → Pours r site k new a → q.pile.grid ≡ r.pile.grid → q.pile.heights ≡ k
-    → q.odometer ≡ new → q.topplings ≡ r.topplings + a.size
-    → q.lost ≡ r.lost + a.lost → TakesGrain r site q
-poured_record r site k new a q all grid heights counts more gone =
-    let P : List ℕ → Type 0 = λ u. (j : ℕ) → get_or r.odometer j 0 ≤ get_or u j 0 in
-    let Q : List ℕ → Type 0 = λ u. IsSettled r.pile.grid (λ j. get_or r.pile.heights j 0 + one_at site j)
-    (λ j. get_or u j 0 - get_or r.odometer j 0) (λ j. get_or k j 0) in
-    let R : List ℕ → Type 0 = λ h. IsSettled r.pile.grid
-    (λ j. get_or r.pile.heights j 0 + one_at site j) (topplings_between r q) (λ j. get_or h j 0) in
-    record {
-      grid = grid;
-      heights_each = ap length heights ∙ all.heights_each;
-      odometer_each = ap length counts ∙ all.odometer_each;
-      never_falls = subst P (sym counts) all.never_falls;
-      settled = subst R (sym heights) (subst Q (sym counts) all.settled);
-      more_topplings = more ∙ ap (λ m. r.topplings + m) all.avalanche.size
-          ∙ ap (λ u. r.topplings + topplings r.pile.grid (λ j. get_or u j 0 - get_or r.odometer j 0)) (sym counts);
-      more_lost = gone ∙ ap (λ m. r.lost + m) all.avalanche.all_lost
-          ∙ ap (λ u. r.lost + lost r.pile.grid (λ j. get_or u j 0 - get_or r.odometer j 0)) (sym counts);
-    }
-
-pub poured_avalanche : (r : SettledView) (site : ℕ) (k new u : List ℕ) (a : Avalanche) → Pours r site k new a → u ≡ new
-    → IsAvalanche r.pile.grid site (λ j. get_or u j 0 - get_or r.odometer j 0) a
-poured_avalanche r site k new u a all counts =
-    let P : List ℕ → Type 0 = λ w. IsAvalanche r.pile.grid site (λ j. get_or w j 0 - get_or r.odometer j 0) a in
-    subst P (sym counts) all.avalanche
+    omega (arith, paid.all_topplings, paid.paid, paid.limit)
 
 -- ---- the pile of one thread after a drop
 
-pub kept_after : (w : Option TiledView) (number : ℕ) (site : ℕ) (r q : SettledView) (t : TiledView)
+pub kept_after : {w : Option TiledView} {number site : ℕ} {r q : SettledView} {t : TiledView}
     → IsOnePile r w number → site < sites r.pile.grid
     → sum r.pile.heights + r.lost < most_grains → TakesGrain r site q
     → IsOnTiles q.pile t → IsOnePile q (Some t) (number + 1)
-kept_after w number site r q t before inside room taken tiled = record {
-  paid = paid_after r q site before.paid inside room taken;
-  bound = let few = before.bound in let more = grains_after r q site before.paid inside taken in omega arith;
+kept_after before inside room taken tiled = record {
+  paid = paid_after before.paid inside room taken;
+  bound = omega (arith, before.bound, grains_after before.paid inside taken);
   tiled = tiled;
   kept = λ _. refl;
 }
 
-pub drops_from : (number : ℕ) (site : ℕ) (r q : SettledView) (v : OneView)
+pub drops_from : (number : ℕ) {site : ℕ} {r q : SettledView} {v : OneView}
     → IsPaid r → one_view r number ≡ v → site < sites r.pile.grid
     → sum r.pile.heights + r.lost < most_grains → TakesGrain r site q
     → Drops v site (one_view q (number + 1))
-drops_from number site r q v paid seen inside room taken =
+drops_from number {site} {r} {q} paid seen inside room taken =
     let P : OneView → Type 0 = λ u. Drops u site (one_view q (number + 1)) in
     subst P seen
     (record {
@@ -379,5 +274,5 @@ drops_from number site r q v paid seen inside room taken =
       room = room;
       settled = taken;
       number = refl;
-      grains = grains_after r q site paid inside taken;
+      grains = grains_after paid inside taken;
     })

@@ -19,9 +19,11 @@ record_by_site g s t r same is = record {
   all_lost = is.all_lost;
 }
 
-module _ (g : Grid) (s : ℕ → ℕ) (r q : SettledView) (first : IsSettledRecord g s r) (second : IsSettledRecord g s q) where
+module _ (g : Grid) (s : ℕ → ℕ) (r q : SettledView)
+    (first : IsSettledRecord g s r) (second : IsSettledRecord g s q) where
   once : (i : ℕ) → i < sites g → (odometer_of r i ≡ odometer_of q i) × (height_of r.pile i ≡ height_of q.pile i)
-  once = settled_once g s (odometer_of r) (odometer_of q) (height_of r.pile) (height_of q.pile) first.settled second.settled
+  once = settled_once g s (odometer_of r) (odometer_of q)
+      (height_of r.pile) (height_of q.pile) first.settled second.settled
 
   same_odometer : r.odometer ≡ q.odometer
   same_odometer = ext_get_or 0 r.odometer q.odometer (first.odometer_each ∙ sym second.odometer_each)
@@ -33,7 +35,8 @@ module _ (g : Grid) (s : ℕ → ℕ) (r q : SettledView) (first : IsSettledReco
 
   pub one_record : r ≡ q
   one_record =
-      let topplings_are = first.all_topplings ∙ (λ k. topplings g (λ i. get_or (same_odometer k) i 0)) ∙ sym second.all_topplings in
+      let topplings_are =
+      first.all_topplings ∙ (λ k. topplings g (λ i. get_or (same_odometer k) i 0)) ∙ sym second.all_topplings in
       let lost_are = first.all_lost ∙ (λ k. lost g (λ i. get_or (same_odometer k) i 0)) ∙ sym second.all_lost in
       λ k. record {
         pile = record { grid = (first.grid ∙ sym second.grid) k; heights = same_heights k };

@@ -1,11 +1,11 @@
--- The queue of the sites that may topple, when one height is written.
-use Rattle.std.proofs.Common.{ℕ, Bool, false, ◌≡◌, ◌≢◌, ◌+◌, ◌-◌, ◌*◌, ◌/◌, ◌<◌, ◌≤◌, refl, sym, ◌∙◌, ap, subst, drop, arith, List, [], ◌∷◌, ◌++◌, length, get_or, length-append, cond, ltb, leb, not, ◌&&◌, ⊎_elim}
+-- Lists of the sites that may topple, when one height is written.
+use Rattle.std.proofs.Common.{ℕ, Bool, ◌≡◌, ◌≢◌, ◌+◌, ◌-◌, ◌*◌, ◌/◌, ◌<◌, ◌≤◌, refl, sym, ◌∙◌, ap, subst, drop, arith, List, [], ◌∷◌, ◌++◌, length, get_or, cond, ltb, leb, not, ◌&&◌, ⊎_elim}
 use Rattle.std.proofs.Math.ListN.{set}
 use Rattle.std.proofs.lemmas.Bool.{cases_lt, lt-leb, le-leb, lt-ltb, le-ltb, leb-true, leb-false}
 use Rattle.std.proofs.lemmas.List.{get_or-set_same, get_or-set_other, drop_more}
 use Rattle.sand_model.specs.Lists.{Lists}
 use Rattle.sand_model.specs.IndexLists.{ListView}
-use Rattle.sand_model.proofs.Lists.{lists_length, lists_pop, lists_of, front_below, front_passes, none_passes}
+use Rattle.sand_model.proofs.Lists.{lists_pop, front_below, front_passes, none_passes}
 use Rattle.sand_model.proofs.IndexLists.{joins_if}
 use Rattle.sand_settle.specs.SiteLists.{may_topple, UnstableJoin}
 
@@ -15,16 +15,9 @@ others_kept test h i v j ne = ap test (sym (get_or-set_other h i j v 0 ne))
 written : (test : ℕ → Bool) (h : List ℕ) (i v : ℕ) → i < length h → test (get_or (set h i v) i 0) ≡ test v
 written test h i v l = ap test (get_or-set_same h i v 0 l)
 
-pub leaves : (test : ℕ → Bool) (h xs : List ℕ) (i v : ℕ)
-    → Lists (length h) (λ j. test (get_or h j 0)) (i ∷ xs) → i < length h
-    → test v ≡ false → Lists (length h) (λ j. test (get_or (set h i v) j 0)) xs
-leaves test h xs i v all l out =
-    lists_pop (length h) (λ j. test (get_or h j 0)) (λ j. test (get_or (set h i v) j 0))
-    xs i all (written test h i v l ∙ out) (λ j m ne. others_kept test h i v j ne)
-
 -- the front may topple, and if the queue is empty no site may
-pub front_is_high : (n : ℕ) (s : ℕ → ℕ) (xs : List ℕ) (i : ℕ) → Lists n (may_topple s) (i ∷ xs) → 4 ≤ s i
-front_is_high n s xs i all = leb-true 4 (s i) (front_passes n (may_topple s) xs i all)
+pub front_is_high : {n : ℕ} (s : ℕ → ℕ) {xs : List ℕ} (i : ℕ) → Lists n (may_topple s) (i ∷ xs) → 4 ≤ s i
+front_is_high {n} s {xs} i all = leb-true 4 (s i) (front_passes n (may_topple s) xs i all)
 
 pub all_low : (n : ℕ) (s : ℕ → ℕ) → Lists n (may_topple s) [] → (i : ℕ) → i < n → s i ≤ 3
 all_low n s all i l = let low = leb-false 4 (s i) (none_passes n (may_topple s) all i l) in omega arith
@@ -47,41 +40,22 @@ joins_one h l m i v inside more is =
     ∙ ap (λ b. not (leb 4 (get_or h i 0)) && b) (sym (written (leb 4) h i v inside)))
     is
 
-pub queue_room : (n : ℕ) (test : ℕ → Bool) (rest next : List ℕ) → Lists n test (rest ++ next) → length next ≤ n
-queue_room n test rest next all =
-    let whole = lists_length n test (rest ++ next) all in
-    omega (arith, length-append rest next)
-
+-- the site whose turn it is comes first
 pub turn_of : (n : ℕ) (test : ℕ → Bool) (generation next : List ℕ) (position i : ℕ)
     → i ≡ get_or generation position 0 → position < length generation
     → Lists n test (drop position generation ++ next)
     → Lists n test (i ∷ (drop (position + 1) generation ++ next))
 turn_of n test generation next position i e l all =
-    let first : drop position generation ≡ i ∷ drop (position + 1) generation = rw (e, drop_more generation position 0) refl in
-    let P : List ℕ → Type 0 = λ xs. Lists n test (xs ++ next) in
-    subst P first all
+    let first : drop position generation ≡ i ∷ drop (position + 1) generation =
+    rw (e, drop_more generation position 0) refl in
+    subst (λ xs. Lists n test (xs ++ next)) first all
 
-pub turn_inside : (n : ℕ) (test : ℕ → Bool) (generation next : List ℕ) (position i : ℕ)
-    → i ≡ get_or generation position 0 → position < length generation
-    → Lists n test (drop position generation ++ next) → i < n
-turn_inside n test generation next position i e l all =
-    front_below n test (drop (position + 1) generation ++ next) i (turn_of n test generation next position i e l all)
-
-pub turn_high : (n : ℕ) (s : ℕ → ℕ) (generation next : List ℕ) (position i : ℕ)
-    → i ≡ get_or generation position 0 → position < length generation
-    → Lists n (may_topple s) (drop position generation ++ next) → 4 ≤ s i
-turn_high n s generation next position i e l all =
-    front_is_high n s (drop (position + 1) generation ++ next) i (turn_of n (may_topple s) generation next position i e l all)
-
--- once the site whose turn it is has toppled, those behind it and the next generation wait
-pub others_wait : (n : ℕ) (h generation next : List ℕ) (position i : ℕ)
-    → n ≡ length h → i ≡ get_or generation position 0 → position < length generation
-    → Lists n (may_topple (λ j. get_or h j 0)) (drop position generation ++ next) → Lists (length h)
-    (may_topple (λ j. get_or (set h i (get_or h i 0 - 4 * (get_or h i 0 / 4))) j 0)) (drop (position + 1) generation ++ next)
-others_wait n h generation next position i all_sites e l all =
-    let now = lists_of n (length h) (may_topple (λ j. get_or h j 0)) (i ∷ (drop (position + 1) generation ++ next))
-    all_sites (turn_of n (may_topple (λ j. get_or h j 0)) generation next position i e l all) in
-    let rest = get_or h i 0 - 4 * (get_or h i 0 / 4) in
-    leaves (leb 4) h (drop (position + 1) generation ++ next) i rest now
-    (front_below (length h) (may_topple (λ j. get_or h j 0)) (drop (position + 1) generation ++ next) i now)
-    (lt-leb 4 rest (omega arith))
+-- once it has toppled, those behind it wait
+pub others_wait : (n : ℕ) (h rest : List ℕ) (i : ℕ) → length h ≡ n
+    → Lists n (may_topple (λ j. get_or h j 0)) (i ∷ rest)
+    → Lists n (may_topple (λ j. get_or (set h i (get_or h i 0 - 4 * (get_or h i 0 / 4))) j 0)) rest
+others_wait n h rest i each all =
+    let low = get_or h i 0 - 4 * (get_or h i 0 / 4) in
+    let inside = front_below n (may_topple (λ j. get_or h j 0)) rest i all in
+    lists_pop n (may_topple (λ j. get_or h j 0)) (may_topple (λ j. get_or (set h i low) j 0)) rest i all
+    (written (leb 4) h i low (omega arith) ∙ lt-leb 4 low (omega arith)) (λ j m ne. others_kept (leb 4) h i low j ne)

@@ -23,22 +23,16 @@ some_four g i xs e =
     four_of xs long ∙ e
 
 -- k topplings of one site take from it what they give to its neighbours
-pub spread_from : (g : Grid) (i k : ℕ) (r q : ℕ → ℕ)
-    → ((j : ℕ) → j < sites g → q j + k * (4 * one_at i j) ≡ r j + k * flow g (one_at i) j)
-    → IsToppled g r (λ j. k * one_at i j) q
-spread_from g i k r q each = record {
-  balance = λ j l. let e = each j l in let one = flow-scale g k (one_at i) j in omega arith;
-}
-
 pub toppled_times : (g : Grid) (i k : ℕ) (h q : List ℕ)
     → i < sites g → length h ≡ sites g → 4 * k ≤ get_or h i 0
     → ((j : ℕ) → j < sites g → get_or q j 0 ≡ get_or (set h i (get_or h i 0 - 4 * k)) j 0 + k * flow g (one_at i) j)
     → IsToppled g (λ j. get_or h j 0) (λ j. k * one_at i j) (λ j. get_or q j 0)
-toppled_times g i k h q inside each high gives =
-    spread_from g i k (λ j. get_or h j 0) (λ j. get_or q j 0)
-    (λ j l.
-    let e = gives j l in
-    let all = get_or-written h i (get_or h i 0 - 4 * k) j (omega arith) in
-    let rest : get_or h i 0 - 4 * k + 4 * k ≡ get_or h i 0 = omega arith in
-    let taken = ap (λ m. m * one_at i j) rest in
-    omega arith)
+toppled_times g i k h q inside each high gives = record {
+  balance = λ j l.
+      let e = gives j l in
+      let one = flow-scale g k (one_at i) j in
+      let all = get_or-written h i (get_or h i 0 - 4 * k) j (omega arith) in
+      let rest : get_or h i 0 - 4 * k + 4 * k ≡ get_or h i 0 = omega arith in
+      let taken = ap (λ m. m * one_at i j) rest in
+      omega arith;
+}

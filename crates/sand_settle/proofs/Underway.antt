@@ -1,34 +1,27 @@
 -- A pile that is being settled, turn by turn.
-use Rattle.std.proofs.Common.{ℕ, ◌≡◌, ◌≢◌, ◌+◌, ◌*◌, ◌^◌, ◌<◌, ◌≤◌, ap, arith, List, length, replicate, sum, get_or, ⊎_elim}
-use Rattle.std.proofs.lemmas.Bool.{cases_eq, cases_lt}
+use Rattle.std.proofs.Common.{ℕ, ◌≡◌, ◌+◌, ◌*◌, ◌^◌, ◌<◌, ◌≤◌, arith, List, length, replicate, sum, get_or, ⊎_elim}
+use Rattle.std.proofs.lemmas.Bool.{cases_lt}
 use Rattle.std.proofs.lemmas.List.{get_or-replicate, get_or_past, length-replicate}
 use Rattle.sand_model.specs.Grid.{Grid, IsGrid, sites}
-use Rattle.sand_model.specs.Sand.{one_at, IsToppled, IsSettled, topplings, weight}
+use Rattle.sand_model.specs.Sand.{one_at, IsToppled, topplings, weight}
 use Rattle.sand_model.proofs.SumsBelow.{sum_below_same, sum_below-add, sum_below-zero, sum_below-one_at}
 use Rattle.sand_model.proofs.Sandpile.{weight_after, laplacian_sum}
 use Rattle.sand_model.proofs.Heights.{sum_is_grains}
-use Rattle.sand_model.proofs.Bounds.{weight_bound, at_most_sum_below}
-use Rattle.sand_model.proofs.Underway.{underway_start, underway_step, underway_end}
+use Rattle.sand_model.proofs.Bounds.{weight_bound}
+use Rattle.sand_model.proofs.Underway.{underway_step}
 use Rattle.sand_model.specs.Underway.{Advances}
 use Rattle.sand_model.specs.Piles.{most_grains}
 
 pub topplings_at : (g : Grid) (i k : ℕ) → i < sites g → topplings g (λ j. k * one_at i j) ≡ k
 topplings_at g i k l = sum_below-one_at (sites g) i (λ j. k) l
 
-pub weight_step : (g : Grid) (i k : ℕ) (t r : ℕ → ℕ) → i < sites g → IsToppled g t (λ j. k * one_at i j) r
-    → weight g r + 2 * k ≤ weight g t
-weight_step g i k t r l done =
-    let all = weight_after g t (λ j. k * one_at i j) r done in
-    let count = topplings_at g i k l in
-    omega arith
-
 -- ---- from one moment to a later one
 
 pub advance_more : (g : Grid) (u t v r w q : ℕ → ℕ) → Advances g u t v r → Advances g v r w q → Advances g u t w q
 advance_more g u t v r w q first second = record {
   underway = λ s before. second.underway s (first.underway s before);
-  weight_pays = let one = first.weight_pays in let two = second.weight_pays in omega arith;
-  grains_fall = let one = first.grains_fall in let two = second.grains_fall in omega arith;
+  weight_pays = omega (arith, first.weight_pays, second.weight_pays);
+  grains_fall = omega (arith, first.grains_fall, second.grains_fall);
 }
 
 pub topplings_more : (g : Grid) (v w : ℕ → ℕ) (i k : ℕ) → i < sites g
@@ -47,31 +40,17 @@ advance_turn g v r w q i k l high counts done = record {
   underway = λ s before. underway_step g s v r w q i k l high before counts done;
   weight_pays =
       let count = topplings_more g v w i k l counts in
-      let falls = weight_step g i k r q l done in
+      let falls = weight_after g r (λ j. k * one_at i j) q done in
+      let all = topplings_at g i k l in
       omega arith;
   grains_fall = let all = laplacian_sum g r (λ j. k * one_at i j) q done in omega arith;
 }
-
-pub turn_counts : (g : Grid) (v w : ℕ → ℕ) (i k : ℕ) → i < sites g
-    → ((j : ℕ) → j < sites g → w j ≡ v j + k * one_at i j) → 0 < k
-    → topplings g v + 1 ≤ topplings g w
-turn_counts g v w i k l counts some = let count = topplings_more g v w i k l counts in omega arith
-
-pub counts_small : (g : Grid) (u t v r : ℕ → ℕ) (i : ℕ) → Advances g u t v r
-    → 2 * topplings g u + weight g t < 2 ^ 55 → i < sites g → v i < 2 ^ 54
-counts_small g u t v r i advances few l =
-    let part = at_most_sum_below (sites g) v i l in
-    let pays = advances.weight_pays in
-    omega arith
 
 pub sum_falls : (g : Grid) (u v : ℕ → ℕ) (h k : List ℕ) → length h ≡ sites g
     → length k ≡ sites g → Advances g u (λ j. get_or h j 0) v (λ j. get_or k j 0)
     → sum k ≤ sum h
 sum_falls g u v h k lh lk advances =
-    let before = sum_is_grains g h lh in
-    let after = sum_is_grains g k lk in
-    let falls = advances.grains_fall in
-    omega arith
+    omega (arith, sum_is_grains g h lh, sum_is_grains g k lk, advances.grains_fall)
 
 -- a list of zeros is 0 everywhere
 pub zero_at : (n j : ℕ) (u : List ℕ) → u ≡ replicate n 0 → get_or u j 0 ≡ 0
@@ -91,16 +70,3 @@ few_at_first g u h sides each limit none =
     let zeros = sum_below_same (sites g) u (λ j. 0) (λ j l. none j) in
     let nothing = sum_below-zero (sites g) in
     omega arith
-
--- ---- at the end
-
-pub all_stable : (g : Grid) (t : ℕ → ℕ) (site : ℕ) → t site ≤ 3
-    → ((j : ℕ) → j < sites g → j ≢ site → t j ≤ 3) → (j : ℕ) → j < sites g → t j ≤ 3
-all_stable g t site low others j l =
-    ⊎_elim (λ (e : j ≡ site). let same = ap t e in omega arith) (λ (ne : j ≡ site → ⊥). others j l ne) (cases_eq j site)
-
--- counts that began at 0 are the odometer
-pub settled_at_last : (g : Grid) (s u v t : ℕ → ℕ) → ((j : ℕ) → u j ≡ 0)
-    → Advances g u s v t → ((j : ℕ) → j < sites g → t j ≤ 3) → IsSettled g s v t
-settled_at_last g s u v t none all low =
-    underway_end g s v t (all.underway s (underway_start g s u (λ j l. none j))) low

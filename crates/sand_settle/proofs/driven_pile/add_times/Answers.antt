@@ -10,7 +10,8 @@ returns c =
     let long = c.loop-count.auto.odometer ∙ c.requires.len ∙ sym (by_site_long c.args.fronts.now.grid sum) in
     ext_get_or 0 c.loop-count.odometer (by_site c.args.fronts.now.grid sum) long
     (λ j l.
-    let added = c.loop-count.invariant.added j (omega (arith, l, c.loop-count.auto.odometer, c.loop-count-test.false)) in
+    let added =
+    c.loop-count.invariant.added j (omega (arith, l, c.loop-count.auto.odometer, c.loop-count-test.false)) in
     let at =
     by_site_at c.args.fronts.now.grid sum j (omega (arith, l, c.loop-count.auto.odometer, c.requires.len)) in
     omega arith)

@@ -2,15 +2,16 @@ use Rattle.std.proofs.Common.{◌+◌, ◌∙◌, sym, ap, subst, arith, length,
 use Rattle.std.proofs.lemmas.List.{take_at}
 use Rattle.sand_model.specs.Grid.{sites}
 use Rattle.sand_model.specs.Piles.{PileView}
+use Rattle.sand_settle.specs.Drops.{TakesGrain}
 use Rattle.sand_settle.specs.Settling.{SettledView, IsSomeSettledRecord}
-use Rattle.sand_settle.proofs.Drops.{Pours, few_so_far, pours, poured_sum, poured_size, poured_record, poured_avalanche, some_record_after}
+use Rattle.sand_settle.proofs.Drops.{Pours, few_so_far, pours, poured_is, some_record_after}
 use Rattle.sand_settle.proofs.one_pile.drop_grain.Goals.{After-drop_into-avalanche}
 use Rattle.sand_settle.proofs.one_pile.drop_grain.Goals as goal
 
-poured : (c : After-drop_into-avalanche)
+all : (c : After-drop_into-avalanche)
     → Pours c.args.settled c.args.drop.1 c.drop_into-avalanche.new.heights
     c.drop_into-avalanche.new.odometer c.drop_into-avalanche.result
-poured c =
+all c =
     pours c.args.settled c.args.drop.1 c.args.drop.0.grid c.deref_mut.result.now
     c.drop_into-avalanche.new.heights c.deref_mut-2.result.now c.drop_into-avalanche.new.odometer
     c.drop_into-avalanche.result c.requires.paid c.requires.site c.requires.limit c.requires.tiled.one_grid
@@ -22,34 +23,27 @@ poured c =
 
 pub drop_into-avalanche-requires-clause-bound : goal.drop_into-avalanche-requires-clause-bound
 drop_into-avalanche-requires-clause-bound c j inside =
-    few_so_far c.args.settled c.deref_mut-2.result.now c.requires.paid
+    few_so_far c.deref_mut-2.result.now c.requires.paid
     (c.deref_mut-2.ensures.value ∙ ap (λ (r : SettledView). r.odometer) c.settled.view_is) j
     (let same = ap sites c.requires.tiled.one_grid in omega arith)
 
 pub overflow_sub-grains : goal.overflow_sub-grains
 overflow_sub-grains c =
-    let left =
-    poured_sum c.args.settled c.args.drop.1 c.drop_into-avalanche.new.heights c.drop_into-avalanche.new.odometer
-    c.drop_into-avalanche.result (poured (goal.at.overflow_sub-grains c).After-drop_into-avalanche) in
+    let whole = (all (goal.at.overflow_sub-grains c).After-drop_into-avalanche).grains in
     let first = ap (λ (r : SettledView). sum r.pile.heights) c.settled.view_is in
     omega (arith, c.grains-grains.ensures.value)
 
 pub from_counted-requires-clause-limit : goal.from_counted-requires-clause-limit
 from_counted-requires-clause-limit c =
-    let left =
-    poured_sum c.args.settled c.args.drop.1 c.drop_into-avalanche.new.heights c.drop_into-avalanche.new.odometer
-    c.drop_into-avalanche.result (poured (goal.at.from_counted-requires-clause-limit c).After-drop_into-avalanche) in
-    let first = ap (λ (r : SettledView). sum r.pile.heights) c.settled.view_is in
+    let paid = (all (goal.at.from_counted-requires-clause-limit c).After-drop_into-avalanche).paid in
     let heights = take_at c.drop_into-avalanche.new.heights
     (drop (length c.drop_into-avalanche.new.heights) c.into_parts-shape.result.1.items)
     c.into_parts-shape.result.1.len (omega (arith, c.drop_into-avalanche.auto.heights, c.deref_mut.ensures.len)) in
-    rw heights (omega (arith, c.requires.limit))
+    rw heights (omega (arith, paid.limit))
 
 pub from_counted-requires-clause-counted : goal.from_counted-requires-clause-counted
 from_counted-requires-clause-counted c =
-    let left =
-    poured_sum c.args.settled c.args.drop.1 c.drop_into-avalanche.new.heights c.drop_into-avalanche.new.odometer
-    c.drop_into-avalanche.result (poured (goal.at.from_counted-requires-clause-counted c).After-drop_into-avalanche) in
+    let whole = (all (goal.at.from_counted-requires-clause-counted c).After-drop_into-avalanche).grains in
     let first = ap (λ (r : SettledView). sum r.pile.heights) c.settled.view_is in
     let heights = take_at c.drop_into-avalanche.new.heights
     (drop (length c.drop_into-avalanche.new.heights) c.into_parts-shape.result.1.items)
@@ -58,20 +52,15 @@ from_counted-requires-clause-counted c =
 
 pub overflow_add-record : goal.overflow_add-record
 overflow_add-record c =
-    let few =
-    poured_size c.args.settled c.args.drop.1 c.drop_into-avalanche.new.heights c.drop_into-avalanche.new.odometer
-    c.drop_into-avalanche.result (poured (goal.at.overflow_add-record c).After-drop_into-avalanche) in
+    let paid = (all (goal.at.overflow_add-record c).After-drop_into-avalanche).paid in
     let first = ap (λ (r : SettledView). r.topplings) c.settled.view_is in
-    omega arith
+    omega (arith, paid.paid, paid.limit)
 
 pub overflow_add-record-2 : goal.overflow_add-record-2
 overflow_add-record-2 c =
-    let left =
-    poured_sum c.args.settled c.args.drop.1 c.drop_into-avalanche.new.heights c.drop_into-avalanche.new.odometer
-    c.drop_into-avalanche.result (poured (goal.at.overflow_add-record-2 c).After-drop_into-avalanche) in
-    let first = ap (λ (r : SettledView). sum r.pile.heights) c.settled.view_is in
+    let paid = (all (goal.at.overflow_add-record-2 c).After-drop_into-avalanche).paid in
     let gone = ap (λ (r : SettledView). r.lost) c.settled.view_is in
-    omega (arith, c.requires.limit)
+    omega (arith, paid.limit)
 
 pub returns-clause-tiled : goal.returns-clause-tiled
 returns-clause-tiled c =
@@ -95,22 +84,23 @@ returns-clause-taken c =
     let odometer = take_at c.drop_into-avalanche.new.odometer
     (drop (length c.drop_into-avalanche.new.odometer) c.settled.inside.odometer.items) c.settled.inside.odometer.len
     (omega (arith, c.drop_into-avalanche.auto.odometer, c.deref_mut-2.ensures.len)) in
-    poured_record c.args.settled c.args.drop.1 c.drop_into-avalanche.new.heights c.drop_into-avalanche.new.odometer
-    c.drop_into-avalanche.result _ (poured (goal.at.returns-clause-taken c).After-drop_into-avalanche)
+    subst (TakesGrain c.args.settled c.args.drop.1)
+    (poured_is c.args.settled c.drop_into-avalanche.result
     (ap (λ (p : PileView). p.grid) c.from_counted.ensures ∙ c.into_parts-shape.ensures.shape
     ∙ ap (λ (r : SettledView). r.pile.grid) c.settled.view_is)
     (ap (λ (p : PileView). p.heights) c.from_counted.ensures ∙ heights) odometer
     (ap (λ (r : SettledView). r.topplings + c.drop_into-avalanche.result.size) c.settled.view_is)
-    (ap (λ (r : SettledView). r.lost + c.drop_into-avalanche.result.lost) c.settled.view_is)
+    (ap (λ (r : SettledView). r.lost + c.drop_into-avalanche.result.lost) c.settled.view_is))
+    (all (goal.at.returns-clause-taken c).After-drop_into-avalanche).taken
 
 pub invariant_of-record : goal.invariant_of-record
-invariant_of-record c = some_record_after c.args.settled _ c.args.drop.1
-    (subst IsSomeSettledRecord c.settled.view_is c.settled.invariant) (returns-clause-taken c)
+invariant_of-record c =
+    some_record_after (subst IsSomeSettledRecord c.settled.view_is c.settled.invariant) (returns-clause-taken c)
 
 pub returns-clause-avalanche : goal.returns-clause-avalanche
 returns-clause-avalanche c =
     let odometer = take_at c.drop_into-avalanche.new.odometer
     (drop (length c.drop_into-avalanche.new.odometer) c.settled.inside.odometer.items) c.settled.inside.odometer.len
     (omega (arith, c.drop_into-avalanche.auto.odometer, c.deref_mut-2.ensures.len)) in
-    poured_avalanche c.args.settled c.args.drop.1 c.drop_into-avalanche.new.heights c.drop_into-avalanche.new.odometer
-    _ c.drop_into-avalanche.result (poured (goal.at.returns-clause-avalanche c).After-drop_into-avalanche) odometer
+    let set_off = (all (goal.at.returns-clause-avalanche c).After-drop_into-avalanche).avalanche in
+    rw odometer set_off

@@ -3,9 +3,10 @@ use Rattle.std.proofs.lemmas.List.{nil_from_length}
 use Rattle.sand_model.specs.Grid.{sites}
 use Rattle.sand_model.specs.Sand.{topplings, weight}
 use Rattle.sand_model.proofs.Lists.{lists_of}
+use Rattle.sand_model.proofs.Underway.{underway_start, underway_end}
 use Rattle.sand_model.specs.IndexLists.{ListView}
 use Rattle.sand_settle.proofs.SiteLists.{all_low}
-use Rattle.sand_settle.proofs.Underway.{advance_more, sum_falls, few_at_first, settled_at_last, zero_at}
+use Rattle.sand_settle.proofs.Underway.{advance_more, sum_falls, few_at_first, zero_at}
 use Rattle.sand_settle.proofs.queue.topple_all.Goals.{After-fill}
 use Rattle.sand_settle.proofs.queue.topple_all.Goals as goal
 
@@ -45,7 +46,8 @@ generations-preserved c = record {
   heights_each = omega (arith, c.generations.invariant.heights_each, c.topple_generation.auto.heights);
   counts_each = omega (arith, c.generations.invariant.counts_each, c.topple_generation.auto.counts);
   spent = omega (arith, c.generations.invariant.spent, c.topple_generation.ensures.each_topples);
-  advances = advance_more c.args.lattice.now _ _ _ _ _ _ c.generations.invariant.advances c.topple_generation.ensures.advances;
+  advances =
+      advance_more c.args.lattice.now _ _ _ _ _ _ c.generations.invariant.advances c.topple_generation.ensures.advances;
   waiting = rw (ap (λ (l : ListView). l.items) c.swap.ensures.x_after) c.topple_generation.ensures.waiting;
   generation_room = omega (
     arith,
@@ -53,15 +55,19 @@ generations-preserved c = record {
     c.topple_generation.ensures.room,
     c.generations.invariant.next_room,
   );
-  next_room = omega (arith, ap (λ (l : ListView). l.room) c.swap.ensures.y_after, c.generations.invariant.generation_room);
+  next_room =
+      omega (arith, ap (λ (l : ListView). l.room) c.swap.ensures.y_after, c.generations.invariant.generation_room);
 }
 
 pub returns-clause-settled : goal.returns-clause-settled
 returns-clause-settled c _ =
-    let none : c.generations.generation.items ≡ [] = nil_from_length c.generations.generation.items (omega (arith, c.len.ensures.value)) in
+    let none : c.generations.generation.items ≡ [] =
+    nil_from_length c.generations.generation.items (omega (arith, c.len.ensures.value)) in
     let waiting = rw none at c.generations.invariant.waiting in
-    settled_at_last c.args.lattice.now _ _ _ _ (uncounted (goal.at.returns-clause-settled c).After-fill)
-    c.generations.invariant.advances (all_low (sites c.args.lattice.now) (λ j. get_or c.generations.heights j 0) waiting)
+    let counts = uncounted (goal.at.returns-clause-settled c).After-fill in
+    underway_end c.args.lattice.now _ _ _
+    (c.generations.invariant.advances.underway _ (underway_start c.args.lattice.now _ _ (λ j l. counts j)))
+    (all_low (sites c.args.lattice.now) (λ j. get_or c.generations.heights j 0) waiting)
 
 pub returns-then-left-eq0-clause-ends : goal.returns-then-left-eq0-clause-ends
 returns-then-left-eq0-clause-ends c many =

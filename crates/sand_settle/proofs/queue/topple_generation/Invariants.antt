@@ -14,6 +14,7 @@ invariant-loop-position l = record {
       (λ j. get_or l.initial.heights j 0) (λ j. get_or l.counts j 0) (λ j. get_or l.heights j 0);
   each_topples : topplings l.lattice (λ j. get_or l.initial.counts j 0) + l.position
       ≤ topplings l.lattice (λ j. get_or l.counts j 0);
-  waiting : Lists (sites l.lattice) (may_topple (λ j. get_or l.heights j 0)) (drop l.position l.generation.items ++ l.next.items);
+  waiting : Lists (sites l.lattice) (may_topple (λ j. get_or l.heights j 0))
+      (drop l.position l.generation.items ++ l.next.items);
   room : l.next.room ≡ l.fn.next.room;
 }

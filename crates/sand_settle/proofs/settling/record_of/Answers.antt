@@ -1,31 +1,27 @@
-use Rattle.std.proofs.Common.{get_or, ◌-◌, ◌∙◌, ap, arith, length, refl, subst, sum, sym}
+use Rattle.std.proofs.Common.{◌-◌, ◌∙◌, ap, arith, length, refl, subst, sum, sym}
 use Rattle.sand_model.specs.Grid.{Grid}
 use Rattle.sand_model.specs.Piles.{PileView, height_of}
-use Rattle.sand_model.proofs.Heights.{sum_is_grains, sum_left}
+use Rattle.sand_model.proofs.Heights.{sum_is_grains}
 use Rattle.sand_settle.specs.Settling.{IsSettledRecord, SettledView}
 use Rattle.sand_settle.proofs.Drops.{grains_kept}
-use Rattle.sand_settle.proofs.Records.{sum_bound, half_weight, record_is}
-use Rattle.sand_settle.proofs.settling.record_of.Goals.{After-grains}
+use Rattle.sand_settle.proofs.Records.{Settles, settles, record_is}
+use Rattle.sand_settle.proofs.settling.record_of.Goals.{After-grains-before, After-grains}
 use Rattle.sand_settle.proofs.settling.record_of.Goals as goal
+
+settling : (c : After-grains-before) → Settles c.args.pile.now c.args.rest.odometer.items c.args.rest.heights.items
+settling c = settles c.args.pile.now c.args.rest.odometer.items c.args.rest.heights.items
+    c.grains-before.ensures.pile c.requires.odometer_each c.requires.heights_each c.requires.settled
 
 pub from_vec-settled-requires-clause-limit : goal.from_vec-settled-requires-clause-limit
 from_vec-settled-requires-clause-limit c =
-    let all = sum_left c.args.pile.now.grid c.args.pile.now.heights
-    c.args.rest.heights.items (λ j. get_or c.args.rest.odometer.items j 0)
-    c.grains-before.ensures.pile.len c.requires.heights_each c.requires.settled.toppled in
-    omega (arith, c.grains-before.ensures.pile.limit)
+    let all = settling (goal.at.from_vec-settled-requires-clause-limit c).After-grains-before in
+    omega (arith, all.left, c.grains-before.ensures.pile.limit)
 
 pub overflow_sub-lost : goal.overflow_sub-lost
 overflow_sub-lost c =
-    let all = sum_left c.args.pile.now.grid c.args.pile.now.heights
-    c.args.rest.heights.items (λ j. get_or c.args.rest.odometer.items j 0)
-    c.grains-before.ensures.pile.len c.requires.heights_each c.requires.settled.toppled in
-    omega (
-      arith,
-      c.grains-before.ensures.value,
-      c.grains.ensures.value,
-      ap (λ (p : PileView). sum p.heights) c.from_vec-settled.ensures,
-    )
+    let all = settling (goal.at.overflow_sub-lost c).After-grains-before in
+    let heights = ap (λ (p : PileView). sum p.heights) c.from_vec-settled.ensures in
+    omega (arith, all.left, c.grains-before.ensures.value, c.grains.ensures.value)
 
 made : (c : After-grains)
     → IsSettledRecord c.args.pile.now.grid (height_of c.args.pile.now) (record {
@@ -59,9 +55,7 @@ of_parts-requires-clause-settled c =
 
 pub of_parts-requires-clause-fits : goal.of_parts-requires-clause-fits
 of_parts-requires-clause-fits c =
-    let bound = sum_bound c.args.pile.now c.args.rest.odometer.items c.args.rest.heights.items
-    c.grains-before.ensures.pile c.requires.odometer_each c.requires.settled in
-    omega arith
+    let all = settling (goal.at.of_parts-requires-clause-fits c).After-grains-before in omega (arith, all.few)
 
 pub returns-clause-record : goal.returns-clause-record
 returns-clause-record c =
@@ -71,20 +65,15 @@ returns-clause-record c =
 pub returns-clause-kept : goal.returns-clause-kept
 returns-clause-kept c =
     let start = c.args.pile.now in
-    let record_of = subst (λ (r : SettledView). IsSettledRecord start.grid (height_of start) r)
-    (sym c.of_parts.ensures) (made (goal.at.returns-clause-kept c).After-grains) in
-    let kept = grains_kept start.grid (height_of start) c.of_parts.result record_of in
-    let before = sum_is_grains start.grid start.heights c.grains-before.ensures.pile.len in
-    omega arith
+    let kept = grains_kept (returns-clause-record c) in
+    omega (arith, sum_is_grains start.grid start.heights c.grains-before.ensures.pile.len)
 
 pub returns-clause-half : goal.returns-clause-half
 returns-clause-half c =
-    let half = half_weight c.args.pile.now c.args.rest.odometer.items
-    c.args.rest.heights.items c.requires.odometer_each c.requires.settled in
-    omega (arith, ap (λ (r : SettledView). r.topplings) c.of_parts.ensures)
+    let all = settling (goal.at.returns-clause-half c).After-grains-before in
+    omega (arith, all.half, ap (λ (r : SettledView). r.topplings) c.of_parts.ensures)
 
 pub returns-clause-bound : goal.returns-clause-bound
 returns-clause-bound c =
-    let bound = sum_bound c.args.pile.now c.args.rest.odometer.items c.args.rest.heights.items
-    c.grains-before.ensures.pile c.requires.odometer_each c.requires.settled in
-    omega (arith, ap (λ (r : SettledView). r.topplings) c.of_parts.ensures)
+    let all = settling (goal.at.returns-clause-bound c).After-grains-before in
+    omega (arith, all.few, ap (λ (r : SettledView). r.topplings) c.of_parts.ensures)

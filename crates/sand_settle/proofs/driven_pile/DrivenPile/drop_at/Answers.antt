@@ -20,24 +20,17 @@ taken : (c : After-drop_at-avalanche)
     c.self.inside.topplings c.self.inside.lost) c.args.site
     (driven_record c.self.inside.start c.drop_at-avalanche.new.self
     (c.self.inside.topplings + c.drop_at-avalanche.result.size) (c.self.inside.lost + c.drop_at-avalanche.result.lost))
-taken c = driven_takes c.self.inside.start c.self.inside.fronts c.drop_at-avalanche.new.self c.args.site
-    c.drop_at-avalanche.result c.self.inside.number c.self.inside.topplings c.self.inside.lost c.self.inside.grains
-    c.self.invariant c.drop_at-avalanche.ensures.grid c.drop_at-avalanche.ensures.by_site
+taken c = driven_takes c.self.invariant c.drop_at-avalanche.ensures.grid c.drop_at-avalanche.ensures.by_site
     c.drop_at-avalanche.ensures.never_falls c.drop_at-avalanche.ensures.settled c.drop_at-avalanche.ensures.avalanche
 
 driven : (c : After-drop_at-avalanche)
     → IsDriven c.self.inside.start c.drop_at-avalanche.new.self (c.self.inside.number + 1)
     (c.self.inside.topplings + c.drop_at-avalanche.result.size)
     (c.self.inside.lost + c.drop_at-avalanche.result.lost) (c.self.inside.grains + 1)
-driven c = driven_after c.self.inside.start c.self.inside.fronts c.drop_at-avalanche.new.self c.args.site
-    c.drop_at-avalanche.result c.self.inside.number c.self.inside.topplings c.self.inside.lost c.self.inside.grains
-    c.self.invariant c.drop_at-avalanche.ensures.grid (inside c) (room c) (taken c)
+driven c = driven_after c.self.invariant c.drop_at-avalanche.ensures.grid (inside c) (room c) (taken c)
 
 pub drop_at-avalanche-requires-clause-bound : goal.drop_at-avalanche-requires-clause-bound
-drop_at-avalanche-requires-clause-bound c = λ j l.
-    let few = few_counts c.self.inside.start c.self.inside.fronts c.self.inside.number
-    c.self.inside.topplings c.self.inside.lost c.self.inside.grains c.self.invariant j l in
-    omega arith
+drop_at-avalanche-requires-clause-bound c = λ j l. omega (arith, few_counts c.self.invariant j l)
 
 pub overflow_add-self : goal.overflow_add-self
 overflow_add-self c = omega (
@@ -70,20 +63,14 @@ returns-clause-avalanche c =
     (topplings_between v.settled (driven_record c.self.inside.start c.drop_at-avalanche.new.self
     (c.self.inside.topplings + c.drop_at-avalanche.result.size) (c.self.inside.lost + c.drop_at-avalanche.result.lost)))
     c.drop_at-avalanche.result)
-    c.self.view_is
-    (driven_avalanche c.self.inside.start c.self.inside.fronts c.drop_at-avalanche.new.self c.args.site c.drop_at-avalanche.result
-    c.self.inside.number c.self.inside.topplings c.self.inside.lost c.self.inside.grains c.self.invariant
-    c.drop_at-avalanche.ensures.avalanche)
+    c.self.view_is (driven_avalanche c.drop_at-avalanche.new.self
+    c.self.invariant c.drop_at-avalanche.ensures.avalanche)
 
 pub returns-clause-drops : goal.returns-clause-drops
 returns-clause-drops c =
     let at = (goal.at.returns-clause-drops c).After-drop_at-avalanche in
-    let same = c.self.invariant.all_grains in
-    let few = room at in
-    drops_from c.self.inside.number c.args.site
-    (driven_record c.self.inside.start c.self.inside.fronts c.self.inside.topplings c.self.inside.lost)
-    _ c.args.self.now
-    c.self.invariant.paid c.self.view_is (inside at) (omega arith) (taken at)
+    drops_from c.self.inside.number c.self.invariant.paid c.self.view_is (inside at)
+    (omega (arith, room at, c.self.invariant.all_grains)) (taken at)
 
 pub returns-clause-after : goal.returns-clause-after
 returns-clause-after c start history after =

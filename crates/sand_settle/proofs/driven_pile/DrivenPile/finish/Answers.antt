@@ -9,8 +9,7 @@ use Rattle.sand_settle.proofs.driven_pile.DrivenPile.finish.Goals as goal
 
 pub add_times-requires-clause-bound : goal.add_times-requires-clause-bound
 add_times-requires-clause-bound c = λ j l.
-    let few = few_counts c.self.inside.start c.self.inside.fronts c.self.inside.number
-    c.self.inside.topplings c.self.inside.lost c.self.inside.grains c.self.invariant j l in
+    let few = few_counts c.self.invariant j l in
     let same = ap (λ (xs : List ℕ). slice_index xs j)
     (c.deref_mut-2.ensures.value ∙ ap (λ (r : SettledView). r.odometer) c.start.view_is) in
     omega arith

@@ -24,18 +24,14 @@ at_start c = record {
 
 pub overflow_add-grains : goal.overflow_add-grains
 overflow_add-grains c =
-    let driven = driven_start c.args.start.now c.in_ok-settled.settled c.in-Ok.fronts c.topplings-topplings.result
-    c.lost-lost.result _ (at_start (goal.at.overflow_add-grains c).After-grains-2) refl in
+    let driven = driven_start (at_start (goal.at.overflow_add-grains c).After-grains-2) refl in
     let sums = c.grains-2.ensures.value ∙ ap (λ (p : PileView). sum p.heights) c.pile-3.ensures.value in
     omega (arith, driven.paid.limit, driven.all_grains)
 
 pub invariant_of-result : goal.invariant_of-result
 invariant_of-result c =
     let sums = c.grains-2.ensures.value ∙ ap (λ (p : PileView). sum p.heights) c.pile-3.ensures.value in
-    driven_start c.args.start.now c.in_ok-settled.settled c.in-Ok.fronts c.topplings-topplings.result
-    c.lost-lost.result _ (at_start (goal.at.invariant_of-result c).After-grains-2) (omega arith)
+    driven_start (at_start (goal.at.invariant_of-result c).After-grains-2) (omega arith)
 
 pub returns-clause-settled : goal.returns-clause-settled
-returns-clause-settled c =
-    driven_view c.args.start.now c.in_ok-settled.settled c.in-Ok.fronts c.topplings-topplings.result
-    c.lost-lost.result (at_start (goal.at.returns-clause-settled c).After-grains-2)
+returns-clause-settled c = driven_view (at_start (goal.at.returns-clause-settled c).After-grains-2)

@@ -14,16 +14,14 @@ pub times-requires-clause-bound : goal.times-requires-clause-bound
 times-requires-clause-bound c =
     let lt = inside c.self.view_is c.args.site c.requires in
     let one = ap sites c.self.invariant.one_grid in
-    let few = few_counts c.self.inside.start c.self.inside.fronts c.self.inside.number
-    c.self.inside.topplings c.self.inside.lost c.self.inside.grains c.self.invariant c.args.site (omega arith) in
+    let few = few_counts c.self.invariant c.args.site (omega arith) in
     omega arith
 
 pub overflow_add-result : goal.overflow_add-result
 overflow_add-result c =
     let lt = inside c.self.view_is c.args.site c.requires in
     let one = ap sites c.self.invariant.one_grid in
-    let few = few_counts c.self.inside.start c.self.inside.fronts c.self.inside.number
-    c.self.inside.topplings c.self.inside.lost c.self.inside.grains c.self.invariant c.args.site (omega arith) in
+    let few = few_counts c.self.invariant c.args.site (omega arith) in
     let first = c.odometer.ensures in
     let more = c.times.ensures in
     record { fits = omega arith }

@@ -13,9 +13,7 @@ invariant_of-self-2 c =
     let room : c.args.self.now.grains < most_grains =
     grind (arith, common_steps, c.is_full.ensures.full, c.is_full.ensures.limit) in
     let dropped = c.replace_with-tiled.ensures in
-    kept_after c.self.inside.tiled c.self.inside.number c.args.site c.self.inside.settled
-    c.replace_with-tiled.new.dest c.replace_with-tiled.result.0
-    c.self.invariant (omega (arith, c.requires)) (omega arith) dropped.1.0 dropped.0
+    kept_after c.self.invariant (omega (arith, c.requires)) (omega arith) dropped.1.0 dropped.0
 
 pub returns-clause-drops : goal.returns-clause-drops
 returns-clause-drops c =
@@ -23,8 +21,8 @@ returns-clause-drops c =
     let grains = ap (λ (v : OneView). v.grains) c.self.view_is in
     let room : c.args.self.now.grains < most_grains =
     grind (arith, common_steps, c.is_full.ensures.full, c.is_full.ensures.limit) in
-    drops_from c.self.inside.number c.args.site c.self.inside.settled c.replace_with-tiled.new.dest c.args.self.now
-    c.self.invariant.paid c.self.view_is (omega (arith, c.requires)) (omega arith) c.replace_with-tiled.ensures.1.0
+    drops_from c.self.inside.number c.self.invariant.paid c.self.view_is (omega (arith, c.requires)) (omega arith)
+    c.replace_with-tiled.ensures.1.0
 
 pub returns-clause-after : goal.returns-clause-after
 returns-clause-after c start history after =
