@@ -94,6 +94,35 @@ fn count_up(block: &mut [u64], x: usize, toppled: u64x2)
     }
 }
 
+// Adds grains to a block, in column x and the next, topples each site there once that may, and returns these sites. The
+// grains are given as ones, twos and fours.
+#[inline(always)]
+fn topple_columns(block: &mut [u64], x: usize, grains: [u64x2; 3], inside: u64x2) -> u64x2
+    requires { x < 31 }
+{
+    if block.len() < BLOCK {
+        return u64x2::splat(0);
+    }
+    let [ones, twos, fours] = grains;
+    let p = u64x2::from_slice(&block[x..]);
+    let q = u64x2::from_slice(&block[STRIP + x..]);
+    let r = u64x2::from_slice(&block[2 * STRIP + x..]);
+    let s = u64x2::from_slice(&block[3 * STRIP + x..]);
+    let carry_one = p & ones;
+    let half_two = q ^ twos;
+    let carry_two = (q & twos) | (half_two & carry_one);
+    let half_four = r ^ fours;
+    let carry_four = (r & fours) | (half_four & carry_two);
+    let four = half_four ^ carry_two;
+    let topples = (s | carry_four) & inside;
+    (p ^ ones).copy_to_slice(&mut block[x..]);
+    (half_two ^ carry_one).copy_to_slice(&mut block[STRIP + x..]);
+    (four ^ topples).copy_to_slice(&mut block[2 * STRIP + x..]);
+    (four & topples).copy_to_slice(&mut block[3 * STRIP + x..]);
+    count_up(block, x, topples);
+    topples
+}
+
 // Topples a strip, once it has the grains that toppled around it, and returns whether any site toppled. `here` begins
 // one word before the strip. The words north of the first class and south of the last are shifted by one bit.
 #[inline(always)]
@@ -121,28 +150,13 @@ fn topple_strip(
         let x = LANES * part;
         let above = u64x2::from_slice(&north[x..]);
         let below = u64x2::from_slice(&south[x..]);
-        let [ones, twos, fours] = sum_of(
+        let grains = sum_of(
             if is_first { above << one } else { above },
             if is_last { below >> one } else { below },
             u64x2::from_slice(&here[x..]),
             u64x2::from_slice(&here[x + 2..]),
         );
-        let p = u64x2::from_slice(&block[x..]);
-        let q = u64x2::from_slice(&block[STRIP + x..]);
-        let r = u64x2::from_slice(&block[2 * STRIP + x..]);
-        let s = u64x2::from_slice(&block[3 * STRIP + x..]);
-        let carry_one = p & ones;
-        let half_two = q ^ twos;
-        let carry_two = (q & twos) | (half_two & carry_one);
-        let half_four = r ^ fours;
-        let carry_four = (r & fours) | (half_four & carry_two);
-        let four = half_four ^ carry_two;
-        let topples = (s | carry_four) & inside;
-        (p ^ ones).copy_to_slice(&mut block[x..]);
-        (half_two ^ carry_one).copy_to_slice(&mut block[STRIP + x..]);
-        (four ^ topples).copy_to_slice(&mut block[2 * STRIP + x..]);
-        (four & topples).copy_to_slice(&mut block[3 * STRIP + x..]);
-        count_up(block, x, topples);
+        let topples = topple_columns(block, x, grains, inside);
         topples.copy_to_slice(&mut toppled[x..]);
         seen |= topples;
     }
