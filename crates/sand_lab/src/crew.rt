@@ -65,41 +65,45 @@ fn sweep_and_tally<R: Threads + Sync, G: Gate>(
     );
 }
 
-fn all_work<R: Threads + Sync, G: Gate>(
-    rt: &R,
-    pile: &SharedPile,
-    gate: &G,
-    wish: Wish,
-    droppers: &mut Vec<Dropper>,
-    workers: &mut Vec<Worker>,
-    observers: &mut Vec<Observer>,
-)
-    requires droppers { All (CanDrop pile.now wish.drops) droppers.old.items }
-    requires workers { All (CanSweep pile.now) workers.old.items }
-    requires observers { All (CanTally pile.now tallies_each) observers.old.items }
-    ensures droppers { AllZip (TookDropTurns pile.now wish.drops) droppers.old.items droppers.new.items }
-    ensures workers { AllZip (TookSweepTurns pile.now wish.sweeps) workers.old.items workers.new.items }
-    ensures observers { AllZip (TookTallyTurns pile.now tallies_each) observers.old.items observers.new.items }
-{
-    join_mut(
-        rt,
-        &mut ||
-            requires { IsSync R.row × IsSync G.row × All (CanDrop pile.now wish.drops) droppers.now.items }
-            ensures { AllZip (TookDropTurns pile.entry.now wish.drops)
-                droppers.entry.now.items droppers.exit.now.items }
-        { do_list(rt, pile, gate, wish.drops, droppers) },
-        &mut ||
-            requires { IsSync R.row × IsSync G.row × All (CanSweep pile.now) workers.now.items
-                × All (CanTally pile.now tallies_each) observers.now.items }
-            ensures workers { AllZip (TookSweepTurns pile.entry.now wish.sweeps)
-                workers.entry.now.items workers.exit.now.items }
-            ensures observers { AllZip (TookTallyTurns pile.entry.now tallies_each)
-                observers.entry.now.items observers.exit.now.items }
-        { sweep_and_tally(rt, pile, gate, wish.sweeps, workers, observers) },
-    );
-}
-
 impl Crew {
+    fn all_work<R: Threads + Sync, G: Gate>(
+        &mut self,
+        rt: &R,
+        pile: &SharedPile,
+        gate: &G,
+        wish: Wish,
+    )
+        requires droppers { All (CanDrop pile.now wish.drops) self.old.droppers.items }
+        requires workers { All (CanSweep pile.now) self.old.workers.items }
+        requires observers { All (CanTally pile.now tallies_each) self.old.observers.items }
+        ensures droppers { AllZip (TookDropTurns pile.now wish.drops) self.old.droppers.items self.new.droppers.items }
+        ensures workers { AllZip (TookSweepTurns pile.now wish.sweeps) self.old.workers.items self.new.workers.items }
+        ensures observers { AllZip (TookTallyTurns pile.now tallies_each)
+            self.old.observers.items self.new.observers.items }
+    {
+        let Crew {
+            droppers,
+            workers,
+            observers,
+        } = self;
+        join_mut(
+            rt,
+            &mut ||
+                requires { IsSync R.row × IsSync G.row × All (CanDrop pile.now wish.drops) droppers.now.items }
+                ensures { AllZip (TookDropTurns pile.entry.now wish.drops)
+                    droppers.entry.now.items droppers.exit.now.items }
+            { do_list(rt, pile, gate, wish.drops, droppers) },
+            &mut ||
+                requires { IsSync R.row × IsSync G.row × All (CanSweep pile.now) workers.now.items
+                    × All (CanTally pile.now tallies_each) observers.now.items }
+                ensures workers { AllZip (TookSweepTurns pile.entry.now wish.sweeps)
+                    workers.entry.now.items workers.exit.now.items }
+                ensures observers { AllZip (TookTallyTurns pile.entry.now tallies_each)
+                    observers.entry.now.items observers.exit.now.items }
+            { sweep_and_tally(rt, pile, gate, wish.sweeps, workers, observers) },
+        );
+    }
+
     /// Droppers drop, workers sweep and observers read the tally, all concurrently.
     pub(crate) fn work<R: Threads + Sync, G: Gate>(
         &mut self,
@@ -111,15 +115,7 @@ impl Crew {
         requires { (epoch : ℕ) × IsCrew pile.now wish epoch self.old }
         ensures { HasBecome pile.now wish self.old self.new }
     {
-        all_work(
-            rt,
-            pile,
-            gate,
-            wish,
-            &mut self.droppers,
-            &mut self.workers,
-            &mut self.observers,
-        );
+        self.all_work(rt, pile, gate, wish);
     }
 
     // Whether no worker toppled anything in its last sweep.

@@ -24,11 +24,6 @@ all_work-requires-clause-observers g c κs within =
 
 pub returns : goal.returns
 returns g c = record {
-  worked = λ t is. worked c.args.pile.now c.args.wish t c.args.self.now
-      (record {
-        droppers = c.all_work.new.droppers;
-        workers = c.all_work.new.workers;
-        observers = c.all_work.new.observers;
-      })
-      is c.all_work.ensures.droppers c.all_work.ensures.workers c.all_work.ensures.observers;
+  worked = λ t is. worked c.args.pile.now c.args.wish t c.args.self.now c.all_work.new.self is
+      c.all_work.ensures.droppers c.all_work.ensures.workers c.all_work.ensures.observers;
 }
