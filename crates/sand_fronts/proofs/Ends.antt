@@ -13,7 +13,7 @@ use Rattle.sand_tiles.proofs.Bits.{bit_le}
 use Rattle.sand_fronts.specs.Tiling.{tile_of, place_of}
 use Rattle.sand_model.specs.Underway.{Advances}
 use Rattle.sand_fronts.specs.Waves.{toppled, IsWave, AreAtRest, heights_before}
-use Rattle.sand_fronts.proofs.OnTiles.{place_below, on_below, height_low}
+use Rattle.sand_fronts.proofs.OnTiles.{place_below, on_tiles_is, height_low}
 use Rattle.sand_fronts.proofs.Sums.{flow_none}
 use Rattle.sand_fronts.proofs.Waves.{IsUnderWay}
 
@@ -25,10 +25,7 @@ first_wave g site τ rest inside =
     let no_flow : (j : ℕ) → j < sites g → flow g (toppled g τ) j ≡ 0 =
     λ j l. flow_none g (toppled g τ) j (λ i m. none i) l in
     record {
-      inside = λ m p low.
-          let z = rest.quiet.clear m p low in
-          let n = on_below g (toppled g τ) m p 0 low (λ j l. let n = none j in omega arith) in
-          omega arith;
+      inside = λ m p low. on_tiles_is g (λ k q. bit (τ k).wave q) m p low (λ no. rest.quiet.clear m p low);
       at_open = λ j l ne.
           let o = one_at_other site j (λ e. ne (sym e)) in
           let d = rest.quiet.none_due (tile_of g j) (place_of g j) (place_below g j) in

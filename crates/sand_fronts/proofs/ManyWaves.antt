@@ -255,9 +255,7 @@ waves_end {g} {site} {τ} {σ} {c} {d} waves =
     underway_end g (heights_before g site τ) (grown_on g c d) (heights_on g σ)
     (waves.advances.underway (heights_before g site τ)
     (underway_start g (heights_before g site τ) (λ j. 0) (λ j l. refl)))
-    (λ j l.
-    let a = height_low (σ (tile_of g j)) (place_of g j) in
-    omega arith)
+    (λ j l. let a = height_low (σ (tile_of g j)) (place_of g j) in omega arith)
 
 -- between two waves the tiles are at rest
 pub at_rest : {g : Grid} {site : ℕ} {more : Bool} {τ σ : ℕ → Tile} {c d : ℕ → Count}

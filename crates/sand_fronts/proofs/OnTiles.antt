@@ -65,9 +65,7 @@ there_again g k p low is =
 
 pub at_on : (g : Grid) (v : ℕ → ℕ) (j : ℕ) → j < sites g → at_site g (on_tiles g v) j ≡ v j
 unfolding on_tiles
-at_on g v j inside =
-    let b = back_again g j inside in
-    ap (λ t. cond t (v (site_on g (tile_of g j) (place_of g j))) 0) b.0 ∙ ap v b.1
+at_on g v j inside = let b = back_again g j inside in rw (b.0, b.1)
 
 pub off_site : (g : Grid) (v : ℕ → ℕ) (k p : ℕ) → is_site g k p ≡ false → on_tiles g v k p ≡ 0
 unfolding on_tiles

@@ -1,5 +1,5 @@
 -- One step of a wave: a tile is visited, and the grains of its topplings reach all neighbours.
-use Rattle.std.proofs.Common.{ℕ, true, cond, ◌≡◌, ◌≢◌, ◌+◌, ◌-◌, ◌*◌, ◌%◌, ◌<◌, ◌≤◌, refl, sym, ◌∙◌, ap, arith}
+use Rattle.std.proofs.Common.{ℕ, true, cond, ◌≡◌, ◌≢◌, ◌+◌, ◌-◌, ◌*◌, ◌%◌, ◌<◌, ◌≤◌, sym, ◌∙◌, ap, arith}
 use Rattle.std.proofs.lemmas.Bool.{cases_eq, eq-eqb, ne_eqb}
 use Rattle.std.proofs.lemmas.Bool.Decides.{nat_tests}
 use Rattle.sand_model.specs.Grid.{Grid, sites}
@@ -14,7 +14,7 @@ use Rattle.sand_tiles.proofs.Around.{around_le}
 use Rattle.sand_fronts.specs.Tiling.{tile_of, place_of, is_site, site_on, on_tiles}
 use Rattle.sand_fronts.specs.Waves.{at_site, toppled, only, AreOpen, IsWave, Gains}
 use Rattle.sand_fronts.proofs.NeighboursOnTiles.{flow_on_tiles}
-use Rattle.sand_fronts.proofs.OnTiles.{place_below, there_again, at_on, on_tiles_blank, on_tiles_le, on_tiles_is, on_site, on_each, height_low}
+use Rattle.sand_fronts.proofs.OnTiles.{place_below, there_again, at_on, on_tiles_blank, on_tiles_le, on_tiles_is, on_site, off_site, on_each, height_low}
 
 pub only_same : (k m : ℕ) (f : ℕ → ℕ) (p : ℕ) → m ≡ k → only k f m p ≡ f p
 unfolding only
@@ -165,11 +165,8 @@ module _ {g : Grid} {site : ℕ} {h free : ℕ → ℕ} (from : IsStart g site h
       λ j. gains.wave (tile_of g j) (place_of g j) (place_below g j) in
       let flows = flow_same g (toppled g σ) (toppled g τ) (λ i l. same i) in
       record {
-        inside = λ m p l.
-            let e = gains.wave m p l in
-            let i = wave.inside m p l in
-            let all = on_each g m p (λ (r : (ℕ → ℕ) → ℕ). r (toppled g σ) ≡ r (toppled g τ)) l (λ j less. same j) refl in
-            omega arith;
+        inside = λ m p l. on_tiles_is g (λ k q. bit (σ k).wave q) m p l
+            (λ no. gains.wave m p l ∙ wave.inside m p l ∙ off_site g (toppled g τ) m p no);
         at_open = λ j l ne.
             let f = flows j l in
             let four = flow_four_at_most g (toppled g τ) (λ i m. set_is g τ i) j l in

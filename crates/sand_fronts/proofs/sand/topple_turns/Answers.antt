@@ -137,8 +137,8 @@ turns-preserved-then-position-len c =
     let kept = keep_one k steps.one.tile on.all_kept one_in (omega arith)
     (tile_read ts k c.index.result.now (omega arith) c.index.ensures) (omega arith) c.keep_if-kept.ensures.next in
     let few = kept.1 in
-    let both = keep_one {t = c.index-then-position-len.result.now} other steps.two.tile kept.0 two_in (omega
-    (arith, length-set {A = ℕ}))
+    let both = keep_one {t = c.index-then-position-len.result.now} other steps.two.tile kept.0 two_in
+    (omega (arith, length-set {A = ℕ}))
     (rw apart (tile_read ts other c.index-then-position-len.result.now (omega arith) c.index-then-position-len.ensures))
     (omega arith) c.keep_if-kept-then-position-len.ensures.next in
     let few' = both.1 in
@@ -207,13 +207,13 @@ turns-preserved c =
 pub returns-clause-wave : goal.returns-clause-wave
 returns-clause-wave c =
     let on = c.turns.invariant.on in
+    let list = c.turns.sand.list.items in
+    let over = drop_all c.turns.position list (omega (arith, c.turns-test.false, c.len.ensures.value)) in
     record {
       wave = arrived on.turn.wave;
       started = let started = on.turn.started in omega arith;
       none_due = none_left c.turns.sand.tiles.items (tiles c.args.board.now.shape) c.turns.invariant.sand.len
-          (rw (drop_all c.turns.position c.turns.sand.list.items (omega
-          (arith, c.turns-test.false, c.len.ensures.value)))
-          at on.waiting);
+          (rw over at on.waiting);
     }
 
 -- the kept tiles are all of the list
