@@ -77,18 +77,20 @@ record IsPlaced (g : Grid) (j k p y x : ℕ) : Type 0 where
   pub tile_is : k ≡ tile g (y + 16) (x + 8)
   pub place_is : p ≡ place (y + 16) (x + 8)
 
+-- On each side there is a site, near or across the seam, or none; and a place, in the tile or over its rim. They agree.
 north_side : {g : Grid} {j k p y x : ℕ} (u : ℕ → ℕ → ℕ) → IsBlank g u → IsPlaced g j k p y x
     → value_at (at_site g u) (north g j) ≡ inner_north (u k) p + over_north (u (k - pitch g)) p
 unfolding north inner_north over_north
 north_side {g} {j} {k} {p} {y} {x} u blank at =
-    let near = λ (some : 0 < y). let m = ap (λ t. t * g.width) (let e : y ≡ y - 1 + 1 = omega arith in e) in
+    let near = λ (some : 0 < y).
+    let m = ap (λ t. t * g.width) (let e : y ≡ y - 1 + 1 = omega arith in e) in
     at_cell g u (j - g.width) (y - 1) (y + 15) (x + 8) (omega arith) (omega arith) (omega arith) (omega arith) in
     let out = λ (none : y ≡ 0). blank (y + 15) (x + 8) (omega arith) (inl (omega arith)) in
-    let inner = λ (low : 8 ≤ p). let m = ap (λ t. t * pitch g) (let e : (y + 16) / 8 ≡
-    (y + 15) / 8 = omega arith in e) in
+    let inner = λ (low : 8 ≤ p).
+    let m = ap (λ t. t * pitch g) (let e : (y + 16) / 8 ≡ (y + 15) / 8 = omega arith in e) in
     same2 u k (tile g (y + 15) (x + 8)) (p - 8) (place (y + 15) (x + 8)) (omega arith) (omega arith) in
-    let over = λ (low : p < 8). let m = ap (λ t. t * pitch g) (let e : (y + 16) / 8 ≡
-    (y + 15) / 8 + 1 = omega arith in e) in
+    let over = λ (low : p < 8).
+    let m = ap (λ t. t * pitch g) (let e : (y + 16) / 8 ≡ (y + 15) / 8 + 1 = omega arith in e) in
     same2 u (k - pitch g) (tile g (y + 15) (x + 8)) (p + 56) (place (y + 15) (x + 8)) (omega arith) (omega arith) in
     grind (arith, nat_tests)
 
@@ -99,11 +101,11 @@ south_side {g} {j} {k} {p} {y} {x} u blank at =
     let near = at_cell g u (j + g.width) (y + 1) (y + 17) (x + 8) (omega arith) (omega arith) (omega arith)
     (omega arith) in
     let out = λ (none : g.height ≤ y + 1). blank (y + 17) (x + 8) (omega arith) (inr (inl (omega arith))) in
-    let inner = λ (low : p < 56). let m = ap (λ t. t * pitch g) (let e : (y + 16) / 8 ≡
-    (y + 17) / 8 = omega arith in e) in
+    let inner = λ (low : p < 56).
+    let m = ap (λ t. t * pitch g) (let e : (y + 16) / 8 ≡ (y + 17) / 8 = omega arith in e) in
     same2 u k (tile g (y + 17) (x + 8)) (p + 8) (place (y + 17) (x + 8)) (omega arith) (omega arith) in
-    let over = λ (low : 56 ≤ p). let m = ap (λ t. t * pitch g) (let e : (y + 17) / 8 ≡
-    (y + 16) / 8 + 1 = omega arith in e) in
+    let over = λ (low : 56 ≤ p).
+    let m = ap (λ t. t * pitch g) (let e : (y + 17) / 8 ≡ (y + 16) / 8 + 1 = omega arith in e) in
     same2 u (k + pitch g) (tile g (y + 17) (x + 8)) (p - 56) (place (y + 17) (x + 8)) (omega arith) (omega arith) in
     grind (arith, nat_tests)
 
