@@ -7,7 +7,7 @@ use Rattle.std.proofs.lemmas.Nat.Bits.{bit_at-trailing_zeros}
 use Rattle.std.proofs.lemmas.Bool.{cases_lt}
 use Rattle.std.proofs.lemmas.Bool.Decides.{nat_tests}
 use Rattle.std.proofs.lemmas.Nat.{div-mul-add, mod-mul-add, mod_below, div_below}
-use Rattle.sand_model.specs.Grid.{Grid, IsGrid, sites, joins, column, row, distance}
+use Rattle.sand_model.specs.Grid.{Grid, IsGrid, sites, joins, row, distance}
 use Rattle.sand_model.specs.Sand.{sum_below, one_at}
 use Rattle.sand_model.specs.Lists.{one_if}
 use Rattle.sand_model.proofs.SumsBelow.{sum_below_same, sum_below-add, sum_below-one_at}
