@@ -24,7 +24,7 @@ fn push_end(text: &mut String, refused: &Refused<'_>) -> Result<(), AllocError> 
     };
     push_place(text, refused.input, refused.input.len())?;
     let is_second = refused.first().is_some();
-    match numbers.count() {
+    match numbers.len() {
         0 if is_second => text.push_str("the input ends after the first pile\n"),
         0 if refused.input.is_empty() => text.push_str("the input is empty\n"),
         0 => text.push_str("the input has no numbers\n"),

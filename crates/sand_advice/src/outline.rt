@@ -1,81 +1,49 @@
-//! The piles in an input, as far as it goes. The input was rejected, so nothing here relies on more than its bytes.
+//! The piles in an input, as far as it goes. The input was rejected, so nothing here relies on more than its tokens.
 
-ghost use Rattle.std.specs.Prelude.{length};
-ghost use Rattle.std.specs.Iterator.{at_most};
+ghost use Rattle.std.specs.Iterator.{item_count};
+ghost use Rattle.sand_text.specs.Left.{tokens_left};
 
 use sand_model::{CYLINDER_WIDTH, GRAIN_LIMIT, SIDE_LIMIT, TOPPLING_HEIGHT};
+use sand_text::{Token, Tokens};
 
-/// A number in an input, with the offset of its first digit. A value too large for its type is the type's maximum.
+/// A number in an input, with the offset of its first digit.
 #[derive(Clone, Copy)]
 pub(crate) struct Number {
     pub start: usize,
     pub value: u64,
 }
 
-/// The numbers of an input, from an offset on.
+/// The numbers of an input, from a token on.
 #[derive(Clone, Copy)]
 pub(crate) struct Numbers<'a> {
-    at: usize,
-    rest: &'a [u8],
-}
-
-fn is_digit(byte: u8) -> bool {
-    byte.is_ascii_digit()
-}
-
-// Appends a digit to a number.
-fn with_digit(value: u64, digit: u8) -> u64 {
-    value
-        .saturating_mul(10)
-        .saturating_add(u64::from(digit.saturating_sub(b'0')))
+    tokens: Tokens<'a>,
 }
 
 impl<'a> Numbers<'a> {
     pub(crate) fn new(text: &'a [u8]) -> Numbers<'a> {
-        Numbers { at: 0, rest: text }
-    }
-
-    // Whether the `c` of a cylinder is next.
-    fn has_letter(&self) -> bool {
-        let next = self.rest.iter().find(|byte| !byte.is_ascii_whitespace());
-        next == Some(&b'c')
-    }
-
-    // The numbers after the first `count`.
-    fn after(mut self, count: usize) -> Numbers<'a> {
-        'numbers: for _ in 0..count {
-            if self.next().is_none() {
-                break;
-            }
+        Numbers {
+            tokens: Tokens::new(text),
         }
-        self
+    }
+
+    /// How many numbers there are.
+    pub(crate) fn len(self) -> usize {
+        self.fold(0, |len: usize, _| len.saturating_add(1))
     }
 }
 
 impl<'a> Iterator for Numbers<'a> {
     type Item = Number;
 
-    ghost remaining = { λ numbers. at_most (length numbers.rest.now) };
+    ghost remaining = { λ numbers. item_count tokens_left numbers.tokens };
 
     fn next(&mut self) -> Option<Number> {
-        let skipped = self.rest.iter().position(|byte| is_digit(*byte))?;
-        let (_, text) = self.rest.split_at(skipped);
-        let (first, more) = text.split_first()?;
-        let len = more
-            .iter()
-            .position(|byte| !is_digit(*byte))
-            .unwrap_or(more.len());
-        let (digits, rest) = more.split_at(len);
-        let start = self.at.saturating_add(skipped);
-        *self = Numbers {
-            at: start.saturating_add(len).saturating_add(1),
-            rest,
-        };
-        let value = digits.iter().fold(
-            with_digit(0, *first),
-            |value, digit| with_digit(value, *digit),
-        );
-        Some(Number { start, value })
+        'tokens: while let Some(token) = self.tokens.next() {
+            if let Token::Number { start, value } = token {
+                return Some(Number { start, value });
+            }
+        }
+        None
     }
 }
 
@@ -105,10 +73,11 @@ impl<'a> Outline<'a> {
     pub(crate) fn at(mut numbers: Numbers<'a>) -> Option<Outline<'a>> {
         let width = numbers.next()?;
         let height = numbers.next()?;
+        let mut tokens = numbers.tokens;
         Some(Outline {
             width,
             height,
-            is_cylinder: numbers.has_letter(),
+            is_cylinder: matches!(tokens.next(), Some(Token::Letter(_))),
             behind: numbers,
         })
     }
@@ -132,14 +101,15 @@ impl<'a> Outline<'a> {
     /// The first side that is out of range, with its name.
     pub(crate) fn bad_side(&self) -> Option<(&'static str, Number)> {
         let most = SIDE_LIMIT as u64;
-        let range = 1..=most;
-        if !range.contains(&self.width.value) {
-            Some(("width", self.width))
-        } else if !range.contains(&self.height.value) {
-            Some(("height", self.height))
-        } else {
-            None
-        }
+        [("width", self.width), ("height", self.height)]
+            .into_iter()
+            .find(|(_, side)| !(1..=most).contains(&side.value))
+    }
+
+    /// The first height over 3.
+    pub(crate) fn unstable(&self) -> Option<Number> {
+        self.heights()
+            .find(|height| height.value >= TOPPLING_HEIGHT)
     }
 
     pub(crate) fn has(&self, defect: Defect) -> bool {
@@ -152,16 +122,13 @@ impl<'a> Outline<'a> {
         }
     }
 
-    /// The first site with more than 3 grains, and its height.
-    pub(crate) fn unstable(&self) -> Option<(usize, Number)> {
-        self.heights()
-            .enumerate()
-            .find(|(_, height)| height.value >= TOPPLING_HEIGHT)
-    }
-
     /// The numbers after the heights.
     pub(crate) fn drops(&self) -> Numbers<'a> {
-        self.behind.after(self.sites())
+        let mut numbers = self.behind;
+        if let Some(last) = self.sites().checked_sub(1) {
+            numbers.nth(last);
+        }
+        numbers
     }
 
     /// The next pile, if both its sides are there.
@@ -170,31 +137,16 @@ impl<'a> Outline<'a> {
     }
 }
 
-// The number of numbers in a line.
-fn numbers_in(line: &[u8]) -> usize {
-    Numbers::new(line).count()
-}
-
-/// The columns and rows of a grid whose size is missing: all lines have the same number of numbers, at least three, so
-/// the first line is not a size.
+/// The columns and rows of a grid whose size is missing: all lines that are not blank have the same number of numbers,
+/// at least three, so the first line is not a size.
 pub(crate) fn grid_without_size(text: &[u8]) -> Option<(usize, usize)> {
-    let mut columns = 0;
-    let mut rows = 0usize;
-    'lines: for line in text.split(|byte| *byte == b'\n') {
-        let count = numbers_in(line);
-        if rows == 0 {
-            columns = count;
-        }
-        if count != 0 {
-            if count != columns {
-                return None;
-            }
-            rows = rows.saturating_add(1);
-        }
+    let mut lengths = text
+        .split(|byte| *byte == b'\n')
+        .map(|line| Numbers::new(line).len())
+        .filter(|length| *length != 0);
+    let columns = lengths.next()?;
+    if columns < 3 || lengths.any(|length| length != columns) {
+        return None;
     }
-    if columns < 3 {
-        None
-    } else {
-        Some((columns, rows))
-    }
+    Some((columns, Numbers::new(text).len() / columns))
 }

@@ -52,7 +52,7 @@ pub(crate) fn push_narrow(text: &mut String, refused: &Refused<'_>) -> Result<()
 // Whether the heights of a pile are followed by exactly one more pile.
 fn is_followed(pile: &Outline<'_>) -> bool {
     match pile.next() {
-        Some(second) => second.bad_side().is_none() && second.behind.count() == second.sites(),
+        Some(second) => second.bad_side().is_none() && second.behind.len() == second.sites(),
         None => false,
     }
 }
@@ -79,7 +79,7 @@ pub(crate) fn push_length(text: &mut String, refused: &Refused<'_>) -> Result<()
     let Some(found) = refused.culprit(Defect::Length) else {
         return Ok(());
     };
-    let count = found.pile.behind.count();
+    let count = found.pile.behind.len();
     text.push_str(found.name)?;
     text.push_str(", ")?;
     push_sides(text, &found.pile)?;
@@ -112,7 +112,7 @@ pub(crate) fn push_unstable(text: &mut String, refused: &Refused<'_>) -> Result<
     let Some(found) = refused.culprit(Defect::Unstable) else {
         return Ok(());
     };
-    let Some((_, height)) = found.pile.unstable() else {
+    let Some(height) = found.pile.unstable() else {
         return Ok(());
     };
     push_place(text, refused.input, height.start)?;

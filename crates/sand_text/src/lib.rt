@@ -33,4 +33,5 @@ pub use places::{column, line};
 pub use rows::push_sum;
 pub use runs::{Sums, lab_text};
 pub use tables::{table_head, table_text};
+pub use tokens::{Token, Tokens};
 pub use two_piles::read_two;

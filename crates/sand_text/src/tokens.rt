@@ -10,7 +10,7 @@ use crate::bytes::{Span, space_len, span_of};
 
 /// A token of a text, with its offset.
 #[derive(Clone, Copy)]
-pub(crate) enum Token {
+pub enum Token {
     /// Digits only. A value over the grain limit counts as one over it.
     Number { start: usize, value: u64 },
     /// A single letter `c`.
@@ -21,7 +21,7 @@ pub(crate) enum Token {
 
 /// The tokens of a text from an offset on that is not inside a token.
 #[derive(Clone, Copy)]
-pub(crate) struct Tokens<'a> {
+pub struct Tokens<'a> {
     at: usize,
     rest: &'a [u8],
     ghost room: { at + length rest.now < 2 ^ 63 },
@@ -52,7 +52,8 @@ impl<'a> Tokens<'a> {
     ghost use Rattle.sand_text.specs.Tokens.{tokens};
     ghost use Rattle.sand_text.specs.Left.{tokens_left};
 
-    pub(crate) fn new(text: &'a [u8]) -> Tokens<'a>
+    /// All tokens of a text.
+    pub fn new(text: &'a [u8]) -> Tokens<'a>
         ensures { tokens_left result ≡ tokens text.entry.now }
     {
         Tokens { at: 0, rest: text }
