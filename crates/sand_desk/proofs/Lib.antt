@@ -1,4 +1,5 @@
 pub mod Endings
+pub mod Helped
 pub mod Rows
 pub mod DropsExist
 pub mod DrawnSites

@@ -12,7 +12,7 @@ use crate::faults::DeskFault;
 use crate::group_commands::{
     burn_input, identity_text, inverse_input, multiple_input, recurrent_input, sum_input,
 };
-use crate::laboratory::lab_input;
+use crate::laboratory::{Output, lab_input};
 use crate::listed_drops::listed_drops;
 use crate::settle_command::settle_input;
 use sand_cli::{Task, task_of};
@@ -72,7 +72,7 @@ fn perform<T: Threads + Sync, G: Gate>(
             wish,
             journal,
             form,
-        } => lab_input(rt, alloc, gate, input, wish, journal, form),
+        } => lab_input(rt, alloc, gate, input, wish, Output { journal, form }),
     }
 }
 

@@ -137,40 +137,40 @@ fn whole_text(alloc: Global, report: &Report, journal: bool) -> Result<Vec<u8>, 
     Ok(text)
 }
 
-// The text of a report, with its journal if wanted, or only its last pile, as text or as a picture.
-fn report_text(
-    alloc: Global,
-    report: &Report,
-    journal: bool,
-    form: Form,
-) -> Result<Vec<u8>, DeskFault>
+/// What is written of a report: its text, with its journal if wanted, or only its last pile, as text or as a picture.
+#[derive(Clone, Copy)]
+pub(crate) struct Output {
+    pub(crate) journal: bool,
+    pub(crate) form: Form,
+}
+
+fn report_text(alloc: Global, report: &Report, output: Output) -> Result<Vec<u8>, DeskFault>
     requires { IsOneThreads report.now.total }
-    ensures text { IfOk result (λ text. text.items ≡ report_text_of journal form report.now) }
+    ensures text { IfOk result (λ text. text.items ≡ report_text_of output.journal output.form report.now) }
     ensures memory { IsOkUnless result DeskFault.Memory }
 {
-    match form {
-        Form::Text => whole_text(alloc, report, journal),
+    match output.form {
+        Form::Text => whole_text(alloc, report, output.journal),
         Form::Pile => pile_text(alloc, report.total().pile()),
         Form::Graymap => pgm_text(alloc, report.total().pile()),
     }
 }
 
-/// The result of a run on the pile in the input: text, with its journal if wanted, or only the last pile, as text or as
-/// a picture. Fails if the pile and all drops exceed the grain limit (`TooManyGrains`).
+/// The output of a run on the pile in the input. Fails if the pile and all drops exceed the grain limit
+/// (`TooManyGrains`).
 pub(crate) fn lab_input<T: Threads + Sync, G: Gate>(
     rt: &T,
     alloc: Global,
     gate: &G,
     input: &[u8],
     wish: Wish,
-    journal: bool,
-    form: Form,
+    output: Output,
 ) -> Result<Vec<u8>, DeskFault>
     requires { IsRun wish }
-    ensures text { IfOk result (λ text. IsLabText wish journal form input.now text.items) }
+    ensures text { IfOk result (λ text. IsLabText wish output.journal output.form input.now text.items) }
     ensures fault { IfErr result (Finds (IsLabFault wish input.now)) }
 {
     let start = read_pile(alloc, input)?;
     let report = report_on(rt, alloc, gate, &start, wish)?;
-    report_text(alloc, &report, journal, form)
+    report_text(alloc, &report, output)
 }

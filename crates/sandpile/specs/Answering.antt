@@ -1,11 +1,10 @@
 -- What the program reads and writes for what its words ask for.
-use Rattle.std.specs.Prelude.{ℕ, ⊤, ◌≡◌, ◌⊎◌, Bool, true, false, ◌&&◌, ◌||◌, List, [], ◌∷◌, Some, None, codes}
+use Rattle.std.specs.Prelude.{ℕ, ⊤, ◌≡◌, Bool, true, false, ◌&&◌, ◌||◌, List, [], ◌∷◌, Some, None, codes}
 use Rattle.std.specs.Str.{bytes_eq}
 use Rattle.std.specs.Io.KnownBytes.{Keeps}
 use Rattle.sand_cli.specs.Names as names
-use Rattle.sand_desk.specs.Commands.{Call, EndsBy, HelpsIfAsked, IsDone, TellsWords}
-use Rattle.sand_desk.specs.Faults.{status_of}
-use Rattle.sand_desk.specs.Helping.{IsHelped, IsShown, IsShownInPart, IsUnshown}
+use Rattle.sand_desk.specs.Commands.{Call}
+use Rattle.sand_desk.specs.Helping.{IsPerformed, IsShown, IsShownInPart, IsUnperformed, IsUnshown}
 use Rattle.sand_desk.specs.Version.{version_text}
 use Rattle.sand_desk.specs.declared.faults.DeskFault.{DeskFault}
 use Rattle.sandpile.specs.declared.request.Request.{Request}
@@ -39,31 +38,6 @@ abbrev pub IsAsked : List (List ℕ) → Request → Type 0
 IsAsked words request.Version = wants_version words ≡ true
 IsAsked words request.Command = (wants_version words ≡ false) × (wants_explanation words ≡ false)
 IsAsked words _ = (wants_version words ≡ false) × (wants_explanation words ≡ true)
-
--- the words ask for help, which the writer took, and nothing was read
-pub record IsHelpShown (words : List (List ℕ)) (call : Call) : Type 0 where
-  pub help : DeskFault
-  pub told : TellsWords words help
-  pub asked : HelpsIfAsked words help
-  pub unread : Keeps call.left call.left_after
-  pub shown : IsHelped help call.held call.held_after
-
--- the words ask for help, but the writer failed or memory ran out, and nothing was read
-pub record IsHelpUnshown (words : List (List ℕ)) (call : Call) (fault : DeskFault) : Type 0 where
-  pub help : DeskFault
-  pub told : TellsWords words help
-  pub asked : HelpsIfAsked words help
-  pub is_help : status_of help ≡ 0
-  pub unread : Keeps call.left call.left_after
-  pub unshown : IsUnshown None call.held call.held_after fault
-
--- a command was done, or its help shown
-abbrev pub IsPerformed : List (List ℕ) → Call → Type 0
-IsPerformed words call = IsDone call ⊎ IsHelpShown words call
-
--- how a command ends with a fault
-abbrev pub IsUnperformed : List (List ℕ) → Call → DeskFault → Type 0
-IsUnperformed words call fault = EndsBy call fault ⊎ IsHelpUnshown words call fault
 
 -- what was asked for was done or written
 abbrev pub IsAnswer : Request → List (List ℕ) → Call → Type 0

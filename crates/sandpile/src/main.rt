@@ -3,71 +3,98 @@
 //! and long commands show their progress there.
 #![tactic(auto)]
 
+ghost use Rattle.std.specs.Prelude.{◌<◌, length};
+
 mod answering;
 mod arguments;
 mod explaining;
 mod kept;
 mod request;
 
-use answering::answer_and_show;
+use answering::answer;
 use arguments::{is_nothing, words_of};
 use kept::Kept;
-use request::{Misuse, request_of};
+use request::{Asked, Misuse, request_of};
 use sand_advice::{Cleared, advice, progress_of, tip};
 use sand_desk::{DeskFault, report_fault};
 use std::alloc::Global;
 use std::io;
-use std::io::IsTerminal;
+use std::io::{IsTerminal, Read, Write};
 use std::process::ExitCode;
+use std::rt::{Clock, Env};
+use std::thread::Threads;
 
 fn main(rt: HostRuntime) -> ExitCode {
     let alloc = rt.alloc();
-    let words = match words_of(&rt, alloc) {
-        Ok(words) => words,
+    match words_of(&rt, alloc) {
+        Ok(words) => run(
+            &rt,
+            alloc,
+            words.as_slice(),
+            rt.stdin(),
+            rt.stdout(),
+            rt.stderr(),
+        ),
         Err(error) if error.kind() == io::ErrorKind::OutOfMemory => {
-            return report_fault(&rt, &mut rt.stderr(), &DeskFault::Memory);
+            report_fault(&rt, &mut rt.stderr(), &DeskFault::Memory)
         }
         Err(_) => {
             let _ = rt.eprintln("error: an argument is not valid UTF-8");
-            return ExitCode::from(2);
+            ExitCode::from(2)
         }
-    };
-    let words = words.as_slice();
+    }
+}
+
+// Does what the words ask for.
+fn run<
+    T: Threads + Sync + Eprint + Clock + Env,
+    R: Read + Drop,
+    W: Write + IsTerminal + Drop,
+    E: Write + IsTerminal + Drop,
+>(rt: &T, alloc: Global, words: &[String], stdin: R, stdout: W, stderr: E) -> ExitCode {
     if is_nothing(words) {
         return ExitCode::from(2);
     }
-    let request = match request_of(words) {
-        Ok(request) => request,
-        Err(misuse) => return report_misuse(&rt, misuse),
-    };
-    let speaks = rt.stderr().is_terminal();
+    match request_of(words) {
+        Ok(request) => {
+            let asked = Asked { request, words };
+            carry_out(rt, alloc, asked, stdin, stdout, stderr)
+        }
+        Err(misuse) => report_misuse(rt, misuse),
+    }
+}
+
+// Carries out a request. At a terminal, long commands show their progress, and advice on a fault follows its line.
+fn carry_out<
+    T: Threads + Sync + Eprint + Clock + Env,
+    R: Read + Drop,
+    W: Write + IsTerminal + Drop,
+    E: Write + IsTerminal + Drop,
+>(rt: &T, alloc: Global, asked: Asked<'_>, stdin: R, stdout: W, mut stderr: E) -> ExitCode
+    requires { 0 < length asked.words.now }
+{
+    let speaks = stderr.is_terminal();
     let copy = if speaks { Some(Vec::new(alloc)) } else { None };
-    let mut input = Kept::new(rt.stdin(), copy);
+    let mut input = Kept::new(stdin, copy);
     let progress = if speaks {
-        progress_of(&rt, alloc, words)
+        progress_of(rt, alloc, asked.words)
     } else {
         None
     };
-    let is_same = rt.stdout().is_terminal();
-    let mut output = Cleared::new(rt.stdout(), progress.as_ref().filter(|_| is_same));
-    match answer_and_show(
-        &rt,
-        alloc,
-        progress.as_ref(),
-        request,
-        words,
-        &mut input,
-        &mut output,
-    ) {
-        Ok(()) => ExitCode::SUCCESS,
-        Err(fault) => {
-            let code = report_fault(&rt, &mut rt.stderr(), &fault);
-            if speaks {
-                advise(&rt, alloc, words, input.copy(), &fault);
-            }
-            code
-        }
+    let is_same = stdout.is_terminal();
+    let mut output = Cleared::new(stdout, progress.as_ref().filter(|_| is_same));
+    let answered = answer(rt, alloc, progress.as_ref(), asked, &mut input, &mut output);
+    if let Some(progress) = &progress {
+        progress.end();
     }
+    let Err(fault) = answered else {
+        return ExitCode::SUCCESS;
+    };
+    let code = report_fault(rt, &mut stderr, &fault);
+    if speaks {
+        advise(rt, alloc, asked.words, input.copy(), &fault);
+    }
+    code
 }
 
 // Reports a call of `explain` with anything but one fault.

@@ -18,6 +18,13 @@ pub(crate) enum Request {
     Command,
 }
 
+/// What was asked for, and the words that ask for it.
+#[derive(Clone, Copy)]
+pub(crate) struct Asked<'a> {
+    pub(crate) request: Request,
+    pub(crate) words: &'a [String],
+}
+
 /// What is wrong with the words after `explain`.
 #[derive(Clone, Copy)]
 pub(crate) enum Misuse<'a> {

@@ -5,11 +5,10 @@ use Rattle.std.specs.Prelude.{Option, Some, None}
 use Rattle.std.specs.Io.KnownBytes.{Appends, Keeps}
 use Rattle.sand_desk.specs.Commands.{Call, EndsBy, HelpsIfAsked, IsMisuse, TellsWords, call_of}
 use Rattle.sand_desk.specs.Faults.{status_of}
-use Rattle.sand_desk.specs.Helping.{IsShownInPart, IsUnhelped, IsUnshown}
+use Rattle.sand_desk.specs.Helping.{IsShownInPart, IsUnhelped, IsUnperformed, IsUnshown}
 use Rattle.sand_desk.specs.declared.faults.DeskFault.{DeskFault}
 use Rattle.sand_desk.specs.declared.faults.DeskFault.TheVariants as desk
 use Rattle.sand_desk.specs.declared.faults.DeskFault.TheVariants.{Memory}
-use Rattle.sandpile.specs.Answering.{IsUnperformed}
 
 no_help : {A : Type 0} → (◌≡◌ {A = ℕ} 1 0) → A
 no_help e = absurd (omega (arith, e))
