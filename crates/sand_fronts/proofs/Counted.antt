@@ -30,12 +30,14 @@ no_list m p = ap (λ (x : List ℕ). slice_index x p) (get_or_past {X = List ℕ
 -- a list of zeros for one tile more
 pub one_list : (ss : List (List ℕ)) (m p : ℕ) → p < 64 → spilled_at (ss ++ replicate 64 0 ∷ []) m p ≡ spilled_at ss m p
 one_list ss m p low =
-    let at : (a b : List ℕ) → a ≡ b → slice_index a p ≡ slice_index b p = λ a b e. ap (λ (x : List ℕ). slice_index x p) e in
+    let at : (a b : List ℕ) → a ≡ b → slice_index a p ≡ slice_index b p =
+    λ a b e. ap (λ (x : List ℕ). slice_index x p) e in
     let zero : List ℕ = replicate 64 0 in
     let past : length ss ≤ m → 0 ≡ spilled_at ss m p =
     λ l. sym (at _ _ (get_or_past {X = List ℕ} ss m [] l) ∙ get_or_past {X = ℕ} [] p 0 (omega arith)) in
     ⊎_elim
-    (λ (e : m ≡ length ss). at _ _ (get_or_push ss zero [] m (sym e)) ∙ get_or-replicate {A = ℕ} 64 p 0 0 low ∙ past (omega arith))
+    (λ (e : m ≡ length ss).
+    at _ _ (get_or_push ss zero [] m (sym e)) ∙ get_or-replicate {A = ℕ} 64 p 0 0 low ∙ past (omega arith))
     (λ (ne : m ≡ length ss → ⊥). ⊎_elim
     (λ (l : m < length ss). at _ _ (get_or_append_left ss (zero ∷ []) [] m l))
     (λ (l : length ss ≤ m). at _ _ (get_or_past {X = List ℕ} (ss ++ zero ∷ []) m []
@@ -68,7 +70,8 @@ recent_adds c k word was r inside read grows =
     }
 
 -- the latest topplings of tile k have gone to its list
-pub spilled_adds : (c : Counts) (ss : Vec (List ℕ) Global) (k : ℕ) (was r : Recent) (s new : List ℕ) → k < length c.each.items
+pub spilled_adds : (c : Counts) (ss : Vec (List ℕ) Global) (k : ℕ) (was r : Recent) (s new : List ℕ)
+    → k < length c.each.items
     → k < length ss.items → vec_capacity ss ≡ vec_capacity c.spilled
     → ((m p : ℕ) → p < 64 → spilled_at ss.items m p ≡ spilled_at c.spilled.items m p)
     → was ≡ get_or c.each.items k was → s ≡ get_or ss.items k s
@@ -114,7 +117,8 @@ adds_none one none = record {
 }
 
 pub recent_none : {r : Recent} → r ≡ no_recent → IsRecent r
-recent_none e = subst IsRecent (sym e) (record { bound = omega arith; each = λ p low. let z = bit_none p in omega arith })
+recent_none e =
+    subst IsRecent (sym e) (record { bound = omega arith; each = λ p low. let z = bit_none p in omega arith })
 
 -- with no spilled topplings of tile k, and its planes cleared, its counts are 0
 pub cleared_at : (c : Counts) (ss : Vec (List ℕ) Global) (k : ℕ) → k < length c.each.items
@@ -241,7 +245,8 @@ counted_one ts c d k word t marks inside added sound marks_each read is marked =
           (cases_eq m k);
       clear = tile_set (λ m x. IsClear (tile_at ts m) → IsClear x) ts k t inside (λ was. clear) (λ m ne was. was);
       marked = marked_one (marks_of c) (slice_index marks.sets) added (λ m. marked m
-          ∙ ap (λ (x : MarksView). cond (eqb m k) (bit_or (slice_index x.sets m) word) (slice_index x.sets m)) added.marks);
+          ∙ ap (λ (x : MarksView).
+          cond (eqb m k) (bit_or (slice_index x.sets m) word) (slice_index x.sets m)) added.marks);
     }
 
 -- ---- numbers
@@ -324,7 +329,8 @@ rest_in P Q k list position end listed still here is m = ⊎_elim
     (cases_eq at.0 position))
     (listed m)
 
-pub none_in : (P : ℕ → Type 0) (list : List ℕ) (position end : ℕ) → AreIn P list position end → end ≤ position → (m : ℕ) → P m
+pub none_in : (P : ℕ → Type 0) (list : List ℕ) (position end : ℕ) → AreIn P list position end → end ≤ position → (m : ℕ)
+    → P m
 none_in P list position end listed last m = ⊎_elim
     (λ (was : P m). was)
     (λ (at : (t : ℕ) × (position ≤ t) × (t < end) × (slice_index list t ≡ m)).

@@ -58,7 +58,8 @@ pub record Leaves (g : Grid) (site : ℕ) (h : ℕ → ℕ) (τ : ℕ → Tile) 
   pub held : k site + 4 ≡ h site + flow g (toppled g τ) site
 
 -- the height of each site in the end
-pub wave_balance : {g : Grid} {site : ℕ} {h : ℕ → ℕ} {τ : ℕ → Tile} {k : ℕ → ℕ} → HasPassed g site h τ → Leaves g site h τ k
+pub wave_balance : {g : Grid} {site : ℕ} {h : ℕ → ℕ} {τ : ℕ → Tile} {k : ℕ → ℕ}
+    → HasPassed g site h τ → Leaves g site h τ k
     → (j : ℕ) → j < sites g → k j + 4 * toppled g τ j ≡ h j + flow g (toppled g τ) j
 wave_balance {g} {site} {h} {τ} {k} past leaves j l =
     let either = cases_eq j site in

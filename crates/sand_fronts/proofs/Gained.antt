@@ -73,8 +73,11 @@ gains_one free ts k t gain inside receives =
     ts k t inside
     (λ p low.
     let c = only_same k k (bit gain) p refl in
-    let r = receives.modulo p low in
-    (ap (λ w. bit w p) receives.wave, λ is few. (let e = receives.each p low is (omega arith) in omega arith), omega arith))
+    let r = receives.modulo p low in (
+      ap (λ w. bit w p) receives.wave,
+      λ is few. (let e = receives.each p low is (omega arith) in omega arith),
+      omega arith,
+    ))
     (λ m ne p low.
     let c = only_other k m (bit gain) p ne in
     let l = height_low (tile_at ts m) p in
@@ -99,7 +102,8 @@ gains_from same gains = record {
   wave = λ m p low. gains.wave m p low ∙ ap (λ x. bit x.wave p) (same m);
   due_free = λ before. gains.due_free
       (λ m p low. let e = ap (λ x. bit x.due p) (same m) in let b = before m p low in omega arith);
-  each = λ m p low is few. let e = ap (λ x. had x p) (same m) in let g = gains.each m p low is (omega arith) in omega arith;
+  each = λ m p low is few.
+      let e = ap (λ x. had x p) (same m) in let g = gains.each m p low is (omega arith) in omega arith;
   modulo = λ m p low. let e = ap (λ x. height x p) (same m) in let g = gains.modulo m p low in omega arith;
 }
 

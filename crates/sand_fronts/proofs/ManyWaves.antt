@@ -39,7 +39,8 @@ others_none : (g : Grid) (site : ℕ) (t : ℕ → ℕ) → site < sites g → t
     → (j : ℕ) → j < sites g → j ≢ site → t j ≡ 0
 others_none g site t inside one few j l ne =
     let u : ℕ → ℕ = λ i. cond (eqb i site) 0 (t i) in
-    let less = sum_less_one (sites g) site t u inside (rw (eq-eqb site site refl)) (λ i other. rw (ne_eqb i site other)) in
+    let less =
+    sum_less_one (sites g) site t u inside (rw (eq-eqb site site refl)) (λ i other. rw (ne_eqb i site other)) in
     let part = at_most_sum_below (sites g) u j l in
     let same : u j ≡ t j = rw (ne_eqb j site ne) in
     omega arith
@@ -136,7 +137,8 @@ wave_counts g {us} {vs} c {d} {e} counts moved clear j =
     let m = tile_of g j in
     omega arith
 
-pub waves_more : {g : Grid} {site : ℕ} (more : Bool) {τ σ : ℕ → Tile} {us vs : List Tile} {c : ℕ → Count} (d' : Counts) {e' : Counts}
+pub waves_more : {g : Grid} {site : ℕ} (more : Bool) {τ σ : ℕ → Tile}
+    {us vs : List Tile} {c : ℕ → Count} (d' : Counts) {e' : Counts}
     → site < sites g → AreWaves g site true τ σ c (counts_of d') → IsWholeWave g site σ (tile_at us)
     → AreCounted us vs d' e' → ((m : ℕ) → IsClear (tile_at vs m))
     → more ≡ (ltb 1 (topplings g (toppled g (tile_at us))) && eqb (heights_on g (tile_at vs) site) 0)

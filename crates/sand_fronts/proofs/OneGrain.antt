@@ -146,7 +146,8 @@ pub record IsWordOf (g : Grid) (site here grain whole : ℕ) (free : List ℕ) :
   pub all : AreAllOpen g (slice_index free)
 
 -- the word without the site
-pub without : {g : Grid} {site here grain whole : ℕ} {free : List ℕ} (p : ℕ) → IsWordOf g site here grain whole free → p < 64
+pub without : {g : Grid} {site here grain whole : ℕ} {free : List ℕ} (p : ℕ)
+    → IsWordOf g site here grain whole free → p < 64
     → (bit (bit_xor whole grain) p ≡ on_tiles g (λ j. 1 - one_at site j) here p)
     × (bit (bit_xor whole grain) p + bit grain p ≤ 1)
 without {g} {site} {here} {grain} {whole} {free} p word low =

@@ -68,9 +68,11 @@ pub visited_wave : {g : Grid} {site : ℕ} {h free : ℕ → ℕ} {τ : ℕ → 
     → ((m p : ℕ) → more m p ≡ away m p + over_rim b new m p)
     → IsUnderWay g site h (put k t τ) more
     × ((j : ℕ) → toppled g (put k t τ) j ≡ toppled g τ j + at_site g (only k (bit new)) j)
-visited_wave {g} {site} {h} {free} {τ} {away} {t} {k} {start} {new} {b} s more from wave begins first ik beside visits fits sums =
+visited_wave {g} {site} {h} {free} {τ} {away} {t} {k} {start} {new}
+    {b} s more from wave begins first ik beside visits fits sums =
     let n : ℕ → ℕ = at_site g (only k (bit new)) in
-    let pays : (m : ℕ) → Pays (τ m) (put k t τ m) (free m) (only k (bit new) m) = pays_put free τ k start new t visits in
+    let pays : (m : ℕ) → Pays (τ m) (put k t τ m) (free m) (only k (bit new) m) =
+    pays_put free τ k start new t visits in
     let sites_only : (m p : ℕ) → p < 64 → only k (bit new) m p ≡ on_tiles g n m p = newly from k s begins visits in
     let sum : (j : ℕ) → toppled g (put k t τ) j ≡ toppled g τ j + n j =
     λ j. (pays (tile_of g j)).once (place_of g j) (place_below g j) in

@@ -176,7 +176,8 @@ pub record IsOn (g : Grid) (site : ℕ) (h free : ℕ → ℕ) (τ : ℕ → Til
 
 module _ {g : Grid} {site : ℕ} {h free : ℕ → ℕ} where
   -- each tile that waits has its turn
-  has_turn : {τ : ℕ → Tile} {n : ℕ} {all : List Beside} (k : ℕ) → AreBeside g all → IsTurn g site h free τ (λ m p. 0) 0 n
+  has_turn : {τ : ℕ → Tile} {n : ℕ} {all : List Beside} (k : ℕ)
+      → AreBeside g all → IsTurn g site h free τ (λ m p. 0) 0 n
       → waits τ k ≡ true → HasTurn g site (free k) (τ k) k (beside_at all k)
   has_turn {τ} k board turn wait =
       let a = (τ k).due % 2 ^ 64 in
@@ -198,7 +199,8 @@ module _ {g : Grid} {site : ℕ} {h free : ℕ → ℕ} where
       }
 
   -- a tile is visited, and its site j topples
-  turn_visit : {τ : ℕ → Tile} {away : ℕ → ℕ → ℕ} {s n k start new : ℕ} {t : Tile} {b : Beside} (more : ℕ → ℕ → ℕ) (j : ℕ)
+  turn_visit : {τ : ℕ → Tile} {away : ℕ → ℕ → ℕ} {s n k start new : ℕ}
+      {t : Tile} {b : Beside} (more : ℕ → ℕ → ℕ) (j : ℕ)
       → IsTurn g site h free τ away s n → Starts g site s k start → IsBeside g k b → j < sites g → tile_of g j ≡ k
       → bit new (place_of g j) ≡ 1 → s ≤ at_site g (only k (bit new)) site → Visits (τ k) t (free k) start new
       → new < 2 ^ 64 → ((m p : ℕ) → more m p ≡ away m p + over_rim b new m p)
@@ -307,17 +309,20 @@ module _ {g : Grid} {site : ℕ} {h free : ℕ → ℕ} where
       (on : IsOn g site h free τ list kept position) (is : j ≡ get_or list position 0) where
     -- the tile at the position has its turn
     pub next_one : position < length list
-        → HasTurn g site (free j) (τ j) j (beside_at all j) × Lists (tiles g) (but j (waits τ)) (drop (position + 1) list)
+        → HasTurn g site (free j) (τ j) j (beside_at all j)
+        × Lists (tiles g) (but j (waits τ)) (drop (position + 1) list)
     next_one less =
         let one = front_of (tiles g) position (position + 1) j (waits τ) list on.waiting less refl is in
         (has_turn j board on.turn one.0, one.1)
 
     -- the next two have their turns, and are not the same
     pub next_two : {k : ℕ} → position + 1 < length list → k ≡ get_or list (position + 1) 0
-        → (j ≢ k) × HasTurn g site (free j) (τ j) j (beside_at all j) × HasTurn g site (free k) (τ k) k (beside_at all k)
+        → (j ≢ k) × HasTurn g site (free j) (τ j) j (beside_at all j)
+        × HasTurn g site (free k) (τ k) k (beside_at all k)
         × Lists (tiles g) (but k (but j (waits τ))) (drop (position + 2) list)
     next_two {k} less is' =
         let one = next_one (omega arith) in
-        let two = front_of (tiles g) (position + 1) (position + 2) k (but j (waits τ)) list one.1 less (omega arith) is' in
+        let two =
+        front_of (tiles g) (position + 1) (position + 2) k (but j (waits τ)) list one.1 less (omega arith) is' in
         let parts = and_parts (not (eqb k j)) (waits τ k) two.0 in
         (λ e. eqb-false k j (not-true (eqb k j) parts.0) (sym e), one.0, has_turn k board on.turn parts.1, two.1)

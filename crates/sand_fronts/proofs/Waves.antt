@@ -87,7 +87,8 @@ module _ {g : Grid} {site : ℕ} {h free : ℕ → ℕ} (from : IsStart g site h
       λ q l.
       let f = bit_le (free k) q in
       let st = bit_le start q in
-      on_each g k q (λ (r : (ℕ → ℕ) → ℕ). bit (free k) q ≡ r (λ j. 1 - one_at site j) → bit start q ≡ r (λ j. s * one_at site j)
+      on_each g k q (λ (r : (ℕ → ℕ) → ℕ).
+      bit (free k) q ≡ r (λ j. 1 - one_at site j) → bit start q ≡ r (λ j. s * one_at site j)
       → bit (τ k).wave q ≡ r (toppled g τ) → unused (free k) start (τ k).wave q ≤ r (λ j. 1 - toppled g τ j)) l
       (λ j m o b i. omega arith) (λ o b i. omega arith) (open' k q l) (begins q l) (wave.inside k q l) in
       record {
@@ -96,7 +97,8 @@ module _ {g : Grid} {site : ℕ} {h free : ℕ → ℕ} (from : IsStart g site h
             let t = there_again g k p l yes.0 in
             let j = site_on g k p in
             let back = ap (λ m. had (τ m) (place_of g j)) t.1 ∙ ap (had (τ k)) t.2 in
-            let a = around_le (unused (free k) start (τ k).wave) (on_tiles g (λ i. 1 - toppled g τ i) k) p l unused_le in
+            let a =
+            around_le (unused (free k) start (τ k).wave) (on_tiles g (λ i. 1 - toppled g τ i) k) p l unused_le in
             let b = rw (t.1, t.2) at (around_some g (λ i. 1 - toppled g τ i) j t.0) in
             let both = flow-add g (toppled g τ) (λ i. 1 - toppled g τ i) j in
             let four = flow_four_at_most g (λ i. toppled g τ i + (1 - toppled g τ i))
@@ -147,7 +149,9 @@ module _ {g : Grid} {site : ℕ} {h free : ℕ → ℕ} (from : IsStart g site h
 
   -- whatever stabilises the pile topples the sites that topple in a visit
   pub needed_next : {τ : ℕ → Tile} {away : ℕ → ℕ → ℕ} {t : Tile} {k start new : ℕ} (s : ℕ) → IsUnderWay g site h τ away
-      → Starts g site s k start → toppled g τ site + s ≤ 1 → Visits (τ k) t (free k) start new → (w : ℕ → ℕ) → Stabilises g h w → (j : ℕ) → j < sites g
+      → Starts g site s k start → toppled g τ site + s ≤ 1
+      → Visits (τ k) t (free k) start new → (w : ℕ → ℕ)
+      → Stabilises g h w → (j : ℕ) → j < sites g
       → toppled g τ j + at_site g (only k (bit new)) j ≤ w j
   unfolding only
   needed_next {τ} {k = k} {start = start} s wave begins first visits w stable j l =

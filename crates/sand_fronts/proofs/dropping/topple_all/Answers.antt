@@ -28,7 +28,9 @@ count_wave-wave-requires-clause-bound c m p low =
     omega arith
 
 pub height_at-requires : goal.height_at-requires
-height_at-requires c = let low = place_below c.args.board.now.shape c.args.drop.site in omega (arith, c.requires.drop.place)
+height_at-requires c =
+    let low = place_below c.args.board.now.shape c.args.drop.site in
+    omega (arith, c.requires.drop.place)
 
 -- fewer than 2 ^ 32 topplings before the wave
 few_before : (c : After-count_wave-wave)
@@ -82,7 +84,8 @@ lost_of c =
 -- what is known after the wave
 next : (c : After-height_at) → (c.count_wave-wave.result.size
     ≡ topplings c.args.board.now.shape (toppled c.args.board.now.shape (tiles_of c.topple_wave.new.self)))
-    → (AreWaves c.args.board.now.shape c.args.drop.site (ltb 1 c.count_wave-wave.result.size && eqb c.height_at.result 0)
+    → (AreWaves c.args.board.now.shape c.args.drop.site
+    (ltb 1 c.count_wave-wave.result.size && eqb c.height_at.result 0)
     (tiles_of c.args.sand.now) (tiles_of c.count_wave-wave.new.sand)
     (counts_of c.args.counts.now) (counts_of c.count_wave-wave.new.self))
     × (topplings c.args.board.now.shape (grown c.args.board.now.shape c.args.counts.now c.count_wave-wave.new.self)
@@ -108,7 +111,8 @@ next c size =
     ∙ ap (height (after (tile_of g site))) c.requires.drop.place in
     let test = ap (λ n. ltb 1 n && eqb c.height_at.result 0) size
     ∙ ap (λ x. ltb 1 (topplings g (toppled g (tiles_of c.topple_wave.new.self))) && eqb x 0) read in
-    waves_more (ltb 1 c.count_wave-wave.result.size && eqb c.height_at.result 0) c.waves.counts c.requires.drop.inside passed
+    waves_more (ltb 1 c.count_wave-wave.result.size && eqb c.height_at.result 0)
+    c.waves.counts c.requires.drop.inside passed
     c.topple_wave.ensures.wave c.count_wave-wave.ensures.counted c.count_wave-wave.ensures.clear test
 
 pub waves-smaller : goal.waves-smaller

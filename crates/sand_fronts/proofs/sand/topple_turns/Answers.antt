@@ -17,7 +17,9 @@ use Rattle.sand_fronts.proofs.sand.topple_turns.Goals.{After-set_of, After-item-
 use Rattle.sand_fronts.proofs.sand.topple_turns.Goals as goal
 
 pub set_of-requires : goal.set_of-requires
-set_of-requires c = let low = place_below c.args.board.now.shape c.args.drop.site in omega (arith, c.requires.drop.place)
+set_of-requires c =
+    let low = place_below c.args.board.now.shape c.args.drop.site in
+    omega (arith, c.requires.drop.place)
 
 -- the first turn: that of the dropped site's tile
 starts : (c : After-set_of) → Starts c.args.board.now.shape c.args.drop.site 1 c.args.drop.tile c.set_of.result

@@ -23,7 +23,8 @@ loop-position-init c = record {
   listed = λ m. ⊎_elim
       (λ (none : marks_of c.args.counts.now m ≡ 0).
       inl (λ p low. c.requires.no_other m p low (ap (λ w. bit w p) none ∙ bit_none p)))
-      (λ (at : (t : ℕ) × (t < length c.args.counts.now.marks.tiles) × (slice_index c.args.counts.now.marks.tiles t ≡ m)).
+      (λ (at : (t : ℕ) × (t < length c.args.counts.now.marks.tiles)
+      × (slice_index c.args.counts.now.marks.tiles t ≡ m)).
       inr (at.0, omega arith, at.1, at.2))
       (empty_or_listed c.args.counts.now.marks.sets c.args.counts.now.marks.tiles m c.len-position-end.ensures.lists);
   added = λ j l. refl;
@@ -62,7 +63,8 @@ loop-position-preserved c =
       sound = cleared_each (λ m x. IsCount x) is is.sound (λ m ne. c.loop-position.invariant.sound m);
       bound = cleared_each (λ m x. (p : ℕ) → p < 64 → counted x p ≤ counted (counts_of c.args.counts.now m) p) is
           (λ p low. let z = is.none p low in omega arith) (λ m ne. c.loop-position.invariant.bound m);
-      listed = rest_in (λ m. AreNone (counts_of c.loop-position.counts m)) (λ m. AreNone (counts_of c.clear.new.self m)) k
+      listed =
+          rest_in (λ m. AreNone (counts_of c.loop-position.counts m)) (λ m. AreNone (counts_of c.clear.new.self m)) k
           c.args.counts.now.marks.tiles c.loop-position.position (length c.args.counts.now.marks.tiles)
           c.loop-position.invariant.listed
           (cleared_each (λ m x. AreNone (counts_of c.loop-position.counts m) → AreNone x) is
@@ -87,7 +89,8 @@ loop-position-preserved c =
 
 pub returns-clause-written : goal.returns-clause-written
 returns-clause-written c =
-    let none = none_in (λ m. AreNone (counts_of c.loop-position.counts m)) c.args.counts.now.marks.tiles c.loop-position.position
+    let none =
+    none_in (λ m. AreNone (counts_of c.loop-position.counts m)) c.args.counts.now.marks.tiles c.loop-position.position
     (length c.args.counts.now.marks.tiles) c.loop-position.invariant.listed
     (omega (arith, c.len-position-end.ensures.value, c.loop-position-test.false)) in
     record {

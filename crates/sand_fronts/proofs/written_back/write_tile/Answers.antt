@@ -15,7 +15,8 @@ use Rattle.sand_fronts.proofs.written_back.write_tile.Goals as goal
 
 pub places-init : goal.places-init
 places-init c = record {
-  written = tile_begins c.args.shape c.args.k (counts_of c.args.counts.now c.args.k) c.args.set c.args.odometer.now c.requires.no_other;
+  written = tile_begins c.args.shape c.args.k (counts_of c.args.counts.now c.args.k)
+      c.args.set c.args.odometer.now c.requires.no_other;
   follows = follows_none c.args.shape c.args.heights.now c.args.odometer.now c.requires.low;
 }
 

@@ -8,7 +8,8 @@ use Rattle.sand_fronts.proofs.counts.Counts.add.Goals as goal
 
 adds : (c : After-count_set-is_full) → AddsSet c.args.k c.args.set c.args.self.now
     (record c.args.self.now { each = with_item c.args.self.now.each c.args.k c.count_set-is_full.new.recent })
-adds c = recent_adds c.args.self.now c.args.k c.args.set c.index_mut.result.now c.count_set-is_full.new.recent c.requires.tile
+adds c = recent_adds c.args.self.now c.args.k c.args.set
+    c.index_mut.result.now c.count_set-is_full.new.recent c.requires.tile
     c.index_mut.ensures.value c.count_set-is_full.ensures.each
 
 pub spill-requires-clause-bound : goal.spill-requires-clause-bound

@@ -9,7 +9,8 @@ returns-then-k-len c =
     let ss = c.args.self.now.spilled.items in
     let zero : List ℕ = replicate 64 0 in
     cleared_at c.args.self.now _ c.args.k c.requires refl
-    (λ p low. ap (λ (x : List ℕ). slice_index x p) (get_or-set_same ss c.args.k zero [] (omega (arith, c.if-k-len.true)))
+    (λ p low.
+    ap (λ (x : List ℕ). slice_index x p) (get_or-set_same ss c.args.k zero [] (omega (arith, c.if-k-len.true)))
     ∙ get_or-replicate {A = ℕ} 64 p 0 0 low)
     (λ m ne. get_or-set_other ss c.args.k m zero [] ne)
 
@@ -18,5 +19,6 @@ returns-else-k-len c =
     let ss = c.args.self.now.spilled.items in
     cleared_at c.args.self.now _ c.args.k c.requires refl
     (λ p low. ap (λ (x : List ℕ). slice_index x p)
-    (get_or_past {X = List ℕ} ss c.args.k [] (omega (arith, c.if-k-len.false))) ∙ get_or_past {X = ℕ} [] p 0 (omega arith))
+    (get_or_past {X = List ℕ} ss c.args.k [] (omega (arith, c.if-k-len.false)))
+    ∙ get_or_past {X = ℕ} [] p 0 (omega arith))
     (λ m ne. refl)

@@ -9,6 +9,8 @@ returns-clause-sound c = recent_none (get_or-set_same c.args.self.now.each.items
     c.requires.tile ∙ c.spill.ensures.empty)
 
 pub returns-clause-added : goal.returns-clause-added
-returns-clause-added c = spilled_adds c.args.self.now c.replace_with.new.dest c.args.k c.index_mut.result.now c.spill.new.recent
+returns-clause-added c =
+    spilled_adds c.args.self.now c.replace_with.new.dest c.args.k c.index_mut.result.now c.spill.new.recent
     c.index_mut-2.result.now c.spill.new.spilled c.requires.tile c.replace_with.ensures.0 c.replace_with.ensures.1.0
-    c.replace_with.ensures.1.1 c.index_mut.ensures.value c.index_mut-2.ensures.value c.spill.ensures.kept c.spill.ensures.empty
+    c.replace_with.ensures.1.1 c.index_mut.ensures.value
+    c.index_mut-2.ensures.value c.spill.ensures.kept c.spill.ensures.empty

@@ -14,7 +14,8 @@ returns-clause-counted c =
     let ts = c.args.tiles.now.items in
     let read = tile_is (goal.at.returns-clause-counted c).After-index in
     let read' = tile_read ts c.args.k _ c.requires.tile c.index_mut.ensures.value in
-    counted_one ts c.args.self.now c.add.new.self c.args.k c.index.result.now.wave (record c.index_mut.result.now { wave = 0 })
+    counted_one ts c.args.self.now c.add.new.self c.args.k
+    c.index.result.now.wave (record c.index_mut.result.now { wave = 0 })
     c.mark.new.self c.requires.tile c.add.ensures.added c.add.ensures.sound
     c.mark.ensures.len (ap (λ (x : Tile). x.wave) read) (ap (λ (x : Tile). record x { wave = 0 }) read')
     c.mark.ensures.each

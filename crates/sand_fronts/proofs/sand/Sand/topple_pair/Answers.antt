@@ -39,7 +39,8 @@ visited c = rw (written_all c, ← c.as_mut_slice.ensures.value) c.visit_two-new
 both : (c : After-hand_over-2) → Gets (free_of c.args.board.now) 8
     (λ m p. over_rim c.beside.result c.visit_two-new_one.result.0 m p
     + over_rim c.beside-2.result c.visit_two-new_one.result.1 m p)
-    (record c.args.self.now { tiles = with_items c.args.self.now.tiles c.visit_two-new_one.new.tiles }) c.hand_over-2.new.self
+    (record c.args.self.now { tiles = with_items c.args.self.now.tiles c.visit_two-new_one.new.tiles })
+    c.hand_over-2.new.self
 both c = gets_more _ c.hand_over.ensures c.hand_over-2.ensures (λ m p low. refl)
 
 pub returns-clause-steps : goal.returns-clause-steps
@@ -70,7 +71,8 @@ returns-clause-steps c =
       };
       gains = rw (← c.beside.ensures, ← c.beside-2.ensures) (gains_from
           (λ m. ap (λ l. tile_at l m) v.written
-          ∙ written (set ts j v.one) k m v.two within.1 ∙ ap (λ x. cond (eqb m k) v.two x) (written ts j m v.one within.0))
+          ∙ written (set ts j v.one) k m v.two within.1
+          ∙ ap (λ x. cond (eqb m k) v.two x) (written ts j m v.one within.0))
           (both c).gains);
     }
 
@@ -79,7 +81,8 @@ returns-clause-joins c =
     let v = visited c in
     let within = inside c v.one in
     let n : length (after c) ≡ tiles c.args.board.now.shape =
-    ap length (written_all c) ∙ c.visit_two-new_one.ensures.len ∙ ap length c.as_mut_slice.ensures.value ∙ c.requires.sand.len in
+    ap length (written_all c) ∙ c.visit_two-new_one.ensures.len
+    ∙ ap length c.as_mut_slice.ensures.value ∙ c.requires.sand.len in
     joins_from
     (λ m l. pair_waits c.args.self.now.tiles.items c.args.j c.args.k m v.one v.two within.0 within.1
     v.visits.none_due v.other_visits.none_due ∙ ap (λ l. waits (tile_at l) m) (sym v.written))

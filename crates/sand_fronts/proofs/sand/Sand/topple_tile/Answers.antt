@@ -55,7 +55,8 @@ returns-clause-steps c =
         visits = rw (← r.0, ← r.1) c.visit-new.ensures;
         fits = omega arith;
       };
-      gains = rw (← c.beside.ensures) (gains_from (λ m. written c.args.self.now.tiles.items c.args.k m c.visit-new.new.tile
+      gains =
+          rw (← c.beside.ensures) (gains_from (λ m. written c.args.self.now.tiles.items c.args.k m c.visit-new.new.tile
           (omega (arith, c.requires.tile.inside, c.requires.sand.len)))
           c.hand_over.ensures.gains);
     }

@@ -49,7 +49,8 @@ pub invariant_of-self : goal.invariant_of-self
 invariant_of-self c =
     let is = c.topple_grain-total.ensures in
     let each = is.settled.counts in
-    pile_after c.topple_grain-total.new.board c.topple_grain-total.new.sand _ c.self.inside.board.shape is.shape is.board
+    pile_after c.topple_grain-total.new.board c.topple_grain-total.new.sand
+    _ c.self.inside.board.shape is.shape is.board
     is.all_open is.settled.sand is.settled.quiet
     (record {
       len = each.len;

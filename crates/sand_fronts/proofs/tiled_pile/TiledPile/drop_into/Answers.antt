@@ -27,7 +27,8 @@ topple_grain-total-requires-clause-bound c =
     (λ j l. let e = ap (λ (v : TiledView). slice_index v.times j) c.self.view_is in
     let none = c.requires.uncounted j in omega arith)
 
-lists : (c : After-self) → ListsHeights c.self.inside.board.shape c.self.inside.sand c.self.inside.counts c.args.self.now
+lists : (c : After-self)
+    → ListsHeights c.self.inside.board.shape c.self.inside.sand c.self.inside.counts c.args.self.now
     c.args.heights.now
 lists c = record { view = c.self.view_is; same = c.requires.heights }
 
@@ -43,7 +44,8 @@ bounds-heights-site-then-heights-site-lt3 c =
 
 pub bounds-heights-site-then-heights-site-lt3-2 : goal.bounds-heights-site-then-heights-site-lt3-2
 bounds-heights-site-then-heights-site-lt3-2 c =
-    (site_listed c.args.site (lists (goal.at.bounds-heights-site-then-heights-site-lt3-2 c).After-self) c.requires.site).1
+    (site_listed c.args.site (lists (goal.at.bounds-heights-site-then-heights-site-lt3-2 c).After-self)
+    c.requires.site).1
 
 pub add_grain-requires-clause-low : goal.add_grain-requires-clause-low
 add_grain-requires-clause-low c =
@@ -138,7 +140,8 @@ write_back-requires-clause-no_other c =
 
 pub avalanche_of-requires-clause-len : goal.avalanche_of-requires-clause-len
 avalanche_of-requires-clause-len c =
-    ap (λ (x : MarksView). length x.sets) c.write_back.ensures.written.marks ∙ c.topple_grain-total.ensures.settled.counts.marks_each
+    ap (λ (x : MarksView). length x.sets) c.write_back.ensures.written.marks
+    ∙ c.topple_grain-total.ensures.settled.counts.marks_each
 
 pub avalanche_of-requires-clause-at_sites : goal.avalanche_of-requires-clause-at_sites
 avalanche_of-requires-clause-at_sites c = rw c.write_back.ensures.written.marks
@@ -169,7 +172,8 @@ invariant_of-self-2 c =
     let is = c.topple_grain-total.ensures in
     let each = is.settled.counts in
     let written = c.write_back.ensures.written in
-    pile_after c.topple_grain-total.new.board c.topple_grain-total.new.sand _ c.self.inside.board.shape is.shape is.board
+    pile_after c.topple_grain-total.new.board c.topple_grain-total.new.sand
+    _ c.self.inside.board.shape is.shape is.board
     is.all_open is.settled.sand is.settled.quiet
     (record {
       len = written.counts_each ∙ each.len;
@@ -190,7 +194,8 @@ returns-clause-heights c =
     let d = goal.at.returns-clause-heights c in
     let g = c.self.inside.board.shape in
     let left = heights_on g (tiles_of c.topple_grain-total.new.sand) in
-    let each = c.write_back.ensures.follows.heights_each ∙ length-set c.args.heights.now _ _ ∙ heights_long (lists d.After-self) in
+    let each =
+    c.write_back.ensures.follows.heights_each ∙ length-set c.args.heights.now _ _ ∙ heights_long (lists d.After-self) in
     let end = by_site_long g left in
     let P : Grid → Type 0 =
     λ h. c.write_back.new.heights ≡ by_site h (heights_on h (tiles_of c.topple_grain-total.new.sand)) in
@@ -198,7 +203,8 @@ returns-clause-heights c =
     (ext_get_or 0 c.write_back.new.heights (by_site g left) (omega arith)
     (λ j l. heights_are g c.args.site c.self.inside.sand c.topple_grain-total.new.sand c.self.inside.counts
     c.topple_grain-total.new.counts c.write_back.new.counts c.args.heights.now _ c.write_back.new.heights
-    c.args.odometer.now c.write_back.new.odometer (writes d.After-write_back (counts d.After-topple_grain-total) (lists d.After-self)) j (omega arith)
+    c.args.odometer.now c.write_back.new.odometer
+    (writes d.After-write_back (counts d.After-topple_grain-total) (lists d.After-self)) j (omega arith)
     ∙ sym (by_site_at g left j (omega arith))))
 
 pub returns-clause-settled : goal.returns-clause-settled
@@ -224,6 +230,8 @@ returns-clause-avalanche c =
     (avalanche_same g c.args.site v w c.avalanche_of.result
     (risen_is g c.args.site c.self.inside.sand c.topple_grain-total.new.sand c.self.inside.counts
     c.topple_grain-total.new.counts c.write_back.new.counts c.args.heights.now _ c.write_back.new.heights
-    c.args.odometer.now c.write_back.new.odometer (writes d.After-write_back (counts d.After-topple_grain-total) (lists d.After-self)))
+    c.args.odometer.now c.write_back.new.odometer
+    (writes d.After-write_back (counts d.After-topple_grain-total) (lists d.After-self)))
     (c.avalanche_of.ensures.avalanche v
-    (subst (λ (x : MarksView). AreToppled g v (slice_index x.sets)) (sym c.write_back.ensures.written.marks) is.marked) is.size is.lost))
+    (subst (λ (x : MarksView). AreToppled g v (slice_index x.sets)) (sym c.write_back.ensures.written.marks) is.marked)
+    is.size is.lost))

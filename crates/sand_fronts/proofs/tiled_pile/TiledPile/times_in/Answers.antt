@@ -8,13 +8,15 @@ use Rattle.sand_fronts.proofs.OnPiles.{site_read}
 use Rattle.sand_fronts.proofs.tiled_pile.TiledPile.times_in.Goals.{After-find_at-tile}
 use Rattle.sand_fronts.proofs.tiled_pile.TiledPile.times_in.Goals as goal
 
-read : (c : After-find_at-tile) → counted (counts_of c.self.inside.counts c.find_at-tile.result.0) c.find_at-tile.result.1
+read : (c : After-find_at-tile)
+    → counted (counts_of c.self.inside.counts c.find_at-tile.result.0) c.find_at-tile.result.1
     ≡ slice_index c.args.self.now.times (c.args.row * c.args.self.now.grid.width + c.args.column)
 read c =
     let g = c.self.inside.board.shape in
     let grid = ap (λ (v : TiledView). sites v.grid) c.self.view_is in
     let site = ap (λ (v : TiledView). c.args.row * v.grid.width + c.args.column) c.self.view_is in
-    site_read (λ (n : Count) (p : ℕ). counted n p) (counts_of c.self.inside.counts) g (c.args.row * g.width + c.args.column)
+    site_read (λ (n : Count) (p : ℕ). counted n p)
+    (counts_of c.self.inside.counts) g (c.args.row * g.width + c.args.column)
     c.find_at-tile.result.0 c.find_at-tile.result.1 (counts_of c.self.inside.counts c.find_at-tile.result.0)
     (omega (arith, c.requires.site))
     c.find_at-tile.ensures.tile c.find_at-tile.ensures.place refl
