@@ -290,18 +290,22 @@ pub(crate) const STREAM: &str = "Stream, up to 4294967295 [default: 0]";
 
 pub(crate) const FROM: &str = "Sites to skip, up to 4294967295 [default: 0]";
 
+/// The name of a setting, and what it is.
+#[derive(Clone, Copy)]
+pub(crate) struct Setting(pub(crate) &'static str, pub(crate) &'static str);
+
 // The settings of `lab`, with their limits.
 
-pub(crate) const SEED: &str = "Seed, up to 4294967295";
+pub(crate) const SEED: Setting = Setting("seed", "Seed, up to 4294967295");
 
-pub(crate) const DROPPERS: &str = "Droppers, from 1 to 64";
+pub(crate) const DROPPERS: Setting = Setting("droppers", "Droppers, from 1 to 64");
 
-pub(crate) const DROPS_OF_EACH: &str = "Drops per dropper, up to 1000000";
+pub(crate) const DROPS_OF_EACH: Setting = Setting("drops", "Drops per dropper, up to 1000000");
 
-pub(crate) const EPOCHS: &str = "Epochs, from 1 to 100";
+pub(crate) const EPOCHS: Setting = Setting("epochs", "Epochs, from 1 to 100");
 
-pub(crate) const WORKERS: &str = "Workers, from 1 to 16";
+pub(crate) const WORKERS: Setting = Setting("workers", "Workers, from 1 to 16");
 
-pub(crate) const SWEEPS: &str = "Sweeps per worker, up to 1000";
+pub(crate) const SWEEPS: Setting = Setting("sweeps", "Sweeps per worker, up to 1000");
 
-pub(crate) const OBSERVERS: &str = "Observers, up to 16";
+pub(crate) const OBSERVERS: Setting = Setting("observers", "Observers, up to 16");

@@ -8,7 +8,9 @@ ghost use Rattle.clap.specs.Words.{AddsArg, AddsSubcommand, app_of, rule_of};
 ghost use Rattle.clap.specs.declared.builder.command.Command.{Command};
 ghost use Rattle.sand_cli.specs.Line.{AddsCommands, AddsRule, IfLine, IsLine, bare_line, command_line, drops_line, flag, next_four, identity_line, lab_line, multiple_line, number, pgm_line, first_four, setting, settle_line, side, times};
 
-use crate::help::{self, DROPPERS, DROPS_OF_EACH, EPOCHS, Help, OBSERVERS, SEED, SWEEPS, WORKERS};
+use crate::help::{
+    self, DROPPERS, DROPS_OF_EACH, EPOCHS, Help, OBSERVERS, SEED, SWEEPS, Setting, WORKERS,
+};
 use clap::builder::ValueParser;
 use clap::{Arg, ArgAction, Command};
 use sand_plan::{
@@ -71,19 +73,12 @@ fn times<'a>(alloc: Global) -> Arg<'a>
     .required(true)
 }
 
-// An option with an integer that defaults to `usual`.
-fn setting<'a>(
-    alloc: Global,
-    name: &'a str,
-    least: u32,
-    most: u32,
-    usual: &'static str,
-    about: &'static str,
-) -> Arg<'a>
-    ensures rule { rule_of result ≡ setting name.entry.now least most usual.now }
+// A setting with an integer from `least` to `most` that defaults to `usual`.
+fn setting<'a>(alloc: Global, named: Setting, least: u32, most: u32, usual: &'static str) -> Arg<'a>
+    ensures rule { rule_of result ≡ setting named.0.now least most usual.now }
     ensures local { result.global ≡ false }
 {
-    number(alloc, name, u64::from(least), u64::from(most), about).default_value(usual)
+    number(alloc, named.0, u64::from(least), u64::from(most), named.1).default_value(usual)
 }
 
 fn bare_line<'a>(alloc: Global, name: &'a str, help: Help) -> Command<'a>
@@ -163,15 +158,14 @@ fn with_times<'a>(
 fn with_setting<'a>(
     alloc: Global,
     line: Result<Command<'a>, AllocError>,
-    name: &'a str,
+    named: Setting,
     least: u32,
     most: u32,
     usual: &'static str,
-    about: &'static str,
 ) -> Result<Command<'a>, AllocError>
-    ensures { AddsRule line.entry result (setting name.entry.now least most usual.now) }
+    ensures { AddsRule line.entry result (setting named.0.now least most usual.now) }
 {
-    with_option(line, setting(alloc, name, least, most, usual, about))
+    with_option(line, setting(alloc, named, least, most, usual))
 }
 
 fn with_pgm<'a>(
@@ -246,13 +240,13 @@ fn lab_line<'a>(alloc: Global) -> Result<Command<'a>, AllocError>
     ensures { IfLine result lab_line }
 {
     let line = Ok(bare_line(alloc, "lab", help::LAB));
-    let line = with_setting(alloc, line, "seed", 0, 4294967295, "0", SEED);
-    let line = with_setting(alloc, line, "droppers", 1, MOST_DROPPERS, "2", DROPPERS);
-    let line = with_setting(alloc, line, "drops", 0, MOST_DROPS, "100", DROPS_OF_EACH);
-    let line = with_setting(alloc, line, "epochs", 1, MOST_EPOCHS, "1", EPOCHS);
-    let line = with_setting(alloc, line, "workers", 1, MOST_WORKERS, "1", WORKERS);
-    let line = with_setting(alloc, line, "sweeps", 0, MOST_SWEEPS, "0", SWEEPS);
-    let line = with_setting(alloc, line, "observers", 0, MOST_OBSERVERS, "0", OBSERVERS);
+    let line = with_setting(alloc, line, SEED, 0, 4294967295, "0");
+    let line = with_setting(alloc, line, DROPPERS, 1, MOST_DROPPERS, "2");
+    let line = with_setting(alloc, line, DROPS_OF_EACH, 0, MOST_DROPS, "100");
+    let line = with_setting(alloc, line, EPOCHS, 1, MOST_EPOCHS, "1");
+    let line = with_setting(alloc, line, WORKERS, 1, MOST_WORKERS, "1");
+    let line = with_setting(alloc, line, SWEEPS, 0, MOST_SWEEPS, "0");
+    let line = with_setting(alloc, line, OBSERVERS, 0, MOST_OBSERVERS, "0");
     let line = with_flag(alloc, line, "journal", "Also write a line for each drop");
     let line = with_pile(alloc, line);
     with_pgm(alloc, line)

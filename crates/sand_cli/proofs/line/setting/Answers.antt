@@ -7,4 +7,4 @@ pub returns-clause-rule : goal.returns-clause-rule
 returns-clause-rule c =
     let given = ap (λ (r : Rule). record r { defaults = c.args.usual.now ∷ [] }) c.number.ensures.rule in
     ap rule_of c.default_value.ensures ∙ given
-    ∙ ap₂ (λ (least most : ℕ). setting c.args.name.now least most c.args.usual.now) c.from.ensures c.from-2.ensures
+    ∙ ap₂ (λ (least most : ℕ). setting c.args.named.0.now least most c.args.usual.now) c.from.ensures c.from-2.ensures
