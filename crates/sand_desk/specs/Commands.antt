@@ -3,6 +3,7 @@ use Rattle.std.specs.Prelude.{ℕ, ⊤, ◌≡◌, ◌↔◌, ◌⊎◌, ◌+◌
 use Rattle.std.specs.Io.KnownBytes.{Appends, Keeps}
 use Rattle.sand_model.specs.declared.faults.ShapeFault.{ShapeFault}
 use Rattle.sand_model.specs.Grid.{grid_with_edge}
+use Rattle.sand_group.specs.declared.faults.GroupFault.TheVariants as group
 use Rattle.sand_text.specs.declared.fault.TextFault.{TextFault}
 use Rattle.sand_text.specs.Flow.{GivesAll, IsFurther, IsFurtherByAtMost, most_bytes}
 use Rattle.sand_text.specs.Reading.{pile_of, two_of}
@@ -66,7 +67,7 @@ IsDropsFault drawn input fault = IsUnreadable (drops_for drawn input) fault
 
 -- the burning test needs a stable pile
 abbrev pub IsBurnFault : List ℕ → DeskFault → Type 0
-IsBurnFault input desk.Unstable = IsUnfitPile input desk.Unstable
+IsBurnFault input desk.Unstable = IsUnfitPile input group.Unstable
 IsBurnFault input fault = IsUnreadable (pile_of input) fault
 
 -- the shape is invalid
@@ -77,15 +78,15 @@ pub record IsShapeless (width height : ℕ) (cylinder : Bool) (fault : DeskFault
 
 -- a sum needs two recurrent piles of one shape; the first pile's fault comes before the second's
 abbrev pub IsSumFault : List ℕ → DeskFault → Type 0
-IsSumFault input desk.Unstable = IsUnfitPair input desk.Unstable
-IsSumFault input desk.NotRecurrent = IsUnfitPair input desk.NotRecurrent
+IsSumFault input desk.Unstable = IsUnfitPair input group.Unstable
+IsSumFault input desk.NotRecurrent = IsUnfitPair input group.NotRecurrent
 IsSumFault input desk.Shapes = IsMismatch input
 IsSumFault input fault = IsUnreadable (two_of input) fault
 
 -- an inverse and a multiple need a recurrent pile
 abbrev pub IsElementFault : List ℕ → DeskFault → Type 0
-IsElementFault input desk.Unstable = IsUnfitPile input desk.Unstable
-IsElementFault input desk.NotRecurrent = IsUnfitPile input desk.NotRecurrent
+IsElementFault input desk.Unstable = IsUnfitPile input group.Unstable
+IsElementFault input desk.NotRecurrent = IsUnfitPile input group.NotRecurrent
 IsElementFault input fault = IsUnreadable (pile_of input) fault
 
 -- a run failed: the pile and all drops exceed the grain limit, memory ran out, or a place of the album was taken

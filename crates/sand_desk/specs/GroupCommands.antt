@@ -7,13 +7,13 @@ use Rattle.sand_model.specs.Integers.{whole}
 use Rattle.sand_model.specs.Piles.{PileView, height_of}
 use Rattle.sand_model.specs.Sand.{IsStable}
 use Rattle.sand_group.specs.declared.burning.Burned.{Burned}
+use Rattle.sand_group.specs.declared.faults.GroupFault.{GroupFault}
 use Rattle.sand_group.specs.Burned.{IsBurned}
+use Rattle.sand_group.specs.Faults.{IsRefusal}
 use Rattle.sand_group.specs.Group.{IsSum, IsMultiple, IsIdentity, IsInverse, Represents}
 use Rattle.sand_group.specs.Recurrence.{IsRecurrent}
 use Rattle.sand_text.specs.Burning.{burn_text_of}
 use Rattle.sand_text.specs.Reading.{pile_of, two_of}
-use Rattle.sand_desk.specs.declared.faults.DeskFault.{DeskFault}
-use Rattle.sand_desk.specs.declared.faults.DeskFault.TheVariants as desk
 use Rattle.sand_desk.specs.SettleCommand.{pile_or_graymap}
 
 -- ---- the texts
@@ -77,24 +77,18 @@ pub record IsRecurrentText (pgm : Bool) (input text : List ℕ) : Type 0 where
 
 -- ---- the refusals
 
--- why a pile is not recurrent: a height is over 3; or none is, and a set is forbidden
-abbrev pub IsUnfit : PileView → DeskFault → Type 0
-IsUnfit pile desk.Unstable = ¬ IsStable pile.grid (height_of pile)
-IsUnfit pile desk.NotRecurrent = IsStable pile.grid (height_of pile) × ¬ IsRecurrent pile.grid (height_of pile)
-IsUnfit pile fault = ⊥
-
--- the pile in the input is not recurrent
-pub record IsUnfitPile (input : List ℕ) (fault : DeskFault) : Type 0 where
+-- the pile in the input is refused
+pub record IsUnfitPile (input : List ℕ) (fault : GroupFault) : Type 0 where
   pub pile : PileView
   pub read : pile_of input ≡ Ok pile
-  pub unfit : IsUnfit pile fault
+  pub unfit : IsRefusal pile fault
 
--- the first of the two piles in the input is not recurrent, or it is and the second is not
-pub record IsUnfitPair (input : List ℕ) (fault : DeskFault) : Type 0 where
+-- the first of the two piles in the input is refused, or it is recurrent and the second is refused
+pub record IsUnfitPair (input : List ℕ) (fault : GroupFault) : Type 0 where
   pub first : PileView
   pub second : PileView
   pub read : two_of input ≡ Ok (first, second)
-  pub unfit : IsUnfit first fault ⊎ (IsRecurrent first.grid (height_of first) × IsUnfit second fault)
+  pub unfit : IsRefusal first fault ⊎ (IsRecurrent first.grid (height_of first) × IsRefusal second fault)
 
 -- the two piles in the input are recurrent, and of different shapes
 pub record IsMismatch (input : List ℕ) : Type 0 where

@@ -7,6 +7,7 @@ use Rattle.sand_model.specs.Piles.{PileView, height_of}
 use Rattle.sand_model.specs.Sand.{IsStable}
 use Rattle.sand_group.specs.declared.faults.GroupFault.{GroupFault}
 use Rattle.sand_group.specs.declared.faults.GroupFault.TheVariants as group
+use Rattle.sand_group.specs.Faults.{IsRefusal}
 use Rattle.sand_group.specs.Recurrence.{IsRecurrent}
 
 -- a pile that cannot be unstable is stable
@@ -25,8 +26,19 @@ pub record IsRefused {A : Type 0} (pile : PileView) (answer : Result A GroupFaul
   pub not_recurrent : answer ≡ Err group.NotRecurrent → IsRecurrent pile.grid (height_of pile) → ⊥
   pub others : IsStable pile.grid (height_of pile) → (fault ≡ group.NotRecurrent) ⊎ (fault ≡ group.Memory alloc_error)
 
-pub not_unstable : {A : Type 0} (pile : PileView) (answer : Result A GroupFault) (fault : GroupFault)
+not_unstable : {A : Type 0} (pile : PileView) (answer : Result A GroupFault) (fault : GroupFault)
     → IsRefused pile answer fault → (fault ≡ group.Unstable → ⊥)
     → IsStable pile.grid (height_of pile)
 not_unstable pile answer fault h other =
     stable pile.grid (height_of pile) (λ high. let is = h.is in let high_is = h.unstable.1 high in other (cc))
+
+pub refusal : {A : Type 0} (pile : PileView) (answer : Result A GroupFault) (fault : GroupFault)
+    → IsRefused pile answer fault → IsRefusal pile fault
+refusal pile answer group.Unstable h = h.unstable.0 h.is
+refusal pile answer group.NotRecurrent h =
+    (not_unstable pile answer group.NotRecurrent h (λ e. cc), h.not_recurrent h.is)
+refusal pile answer group.Shapes h = elim (h.others (not_unstable pile answer group.Shapes h (λ e. cc))) [
+  | inl e ↦ absurd (cc)
+  | inr e ↦ absurd (cc)
+]
+refusal pile answer (group.Memory error) h = tt
