@@ -31,13 +31,15 @@ returns-in_err-second-clause-fault c =
       first = c.in_ok-first.first;
       second = c.in_ok-first.second;
       read = c.in_ok-first.ensures;
-      unfit = inr (c.in_ok-first-2.ensures.recurrent,
-          refusal c.in_ok-first.second c.from_pile-2.result c.in_err-second.field-0.0 (record {
-            is = c.in_err-second.was;
-            unstable = c.from_pile-2.ensures.unstable;
-            not_recurrent = c.from_pile-2.ensures.not_recurrent;
-            others = c.in_err-second.ensures.faults;
-          }));
+      unfit = inr (
+        c.in_ok-first-2.ensures.recurrent,
+        refusal c.in_ok-first.second c.from_pile-2.result c.in_err-second.field-0.0 (record {
+          is = c.in_err-second.was;
+          unstable = c.from_pile-2.ensures.unstable;
+          not_recurrent = c.from_pile-2.ensures.not_recurrent;
+          others = c.in_err-second.ensures.faults;
+        }),
+      );
     }))
 
 pub returns-clause-text : goal.returns-clause-text
