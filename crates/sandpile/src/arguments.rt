@@ -2,42 +2,20 @@
 
 ghost use Rattle.std.specs.Prelude.{◌≡◌, ◌<◌, false, true, length};
 
-use std::alloc::{AllocError, Global};
+use std::alloc::Global;
 use std::env::FillError;
 use std::rt::Env;
 use std::{env, io};
 
-const NAME: &[u8] = b"sandpile";
-
-// Whether the program was called by a name.
-fn is_named<R: Env>(rt: &R) -> bool {
-    let mut start = [0u8; 1];
-    match rt.arg(0, &mut start) {
-        Ok(count) => count > 0,
-        Err(FillError::TooLong) => true,
-        Err(FillError::NotPresent) => false,
-    }
-}
-
-// The arguments, with `sandpile` in place of the program's name; if that is empty or missing, with an empty one.
+// The arguments that come after the program's name.
 #[derive(Drop)]
-struct Renamed<'a, R> {
+struct AfterName<'a, R> {
     rt: &'a R,
 }
 
-impl<R: Env> Env for Renamed<'_, R> {
+impl<R: Env> Env for AfterName<'_, R> {
     fn arg(&self, i: usize, buf: &mut [u8]) -> Result<usize, FillError> {
-        if i > 0 {
-            return self.rt.arg(i, buf);
-        }
-        if !is_named(self.rt) {
-            return Ok(0);
-        }
-        let Some(room) = buf.get_mut(..NAME.len()) else {
-            return Err(FillError::TooLong);
-        };
-        room.copy_from_slice(NAME);
-        Ok(NAME.len())
+        self.rt.arg(i.saturating_add(1), buf)
     }
 
     fn var(&self, name: &str, buf: &mut [u8]) -> Result<usize, FillError> {
@@ -49,6 +27,33 @@ impl<R: Env> Env for Renamed<'_, R> {
     }
 }
 
+// Whether the program was called by a name.
+fn is_named<R: Env>(rt: &R) -> bool {
+    let mut start = [0u8; 1];
+    match rt.arg(0, &mut start) {
+        Ok(count) => count > 0,
+        Err(FillError::TooLong) => true,
+        Err(FillError::NotPresent) => false,
+    }
+}
+
+/// The words, after `sandpile` in place of the program's name; if that is empty or missing, after an empty word. `help`
+/// is replaced by `--help` at the end. Fails if a word is not text, or memory runs out.
+pub(crate) fn words_of<R: Env>(rt: &R, alloc: Global) -> io::Result<Vec<String>> {
+    let name = if is_named(rt) { "sandpile" } else { "" };
+    let args = env::args(&(AfterName { rt }, alloc))?;
+    let mut words = Vec::with_capacity(alloc, args.len().saturating_add(1))?;
+    words.push(String::from_str(alloc, name)?)?;
+    for word in args {
+        words.push(word)?;
+    }
+    if asks_for_help(words.as_slice()) {
+        let _ = words.remove(1);
+        words.push(String::from_str(alloc, "--help")?)?;
+    }
+    Ok(words)
+}
+
 // Whether the words are `help`, alone or with a command. They are then read as `--help`, alone or after the command.
 fn asks_for_help(words: &[String]) -> bool
     ensures { result ≡ true → 1 < length words.now }
@@ -57,24 +62,6 @@ fn asks_for_help(words: &[String]) -> bool
         [_, word] | [_, word, _] => word.as_str() == "help",
         _ => false,
     }
-}
-
-// Puts `--help` at the end in place of `help`.
-fn spell_help(alloc: Global, words: &mut Vec<String>) -> Result<(), AllocError> {
-    if asks_for_help(words.as_slice()) {
-        let _ = words.remove(1);
-        words.push(String::from_str(alloc, "--help")?)?;
-    }
-    Ok(())
-}
-
-/// The words, after `sandpile` in place of the program's name; if that is empty or missing, after an empty word. `help`
-/// is replaced by `--help` at the end. Fails if a word is not text, or memory runs out.
-pub(crate) fn words_of<R: Env>(rt: &R, alloc: Global) -> io::Result<Vec<String>> {
-    let args = env::args(&(Renamed { rt }, alloc))?;
-    let mut words: Vec<String> = args.collect(alloc)?;
-    spell_help(alloc, &mut words)?;
-    Ok(words)
 }
 
 /// Whether the program was started without any word. Current kernels then pass one empty word.
