@@ -1,5 +1,5 @@
 -- How often each place of a tile has toppled.
-use Rattle.std.specs.Prelude.{ℕ, List, [], ◌+◌, ◌*◌, ◌<◌, ◌≤◌, slice_index}
+use Rattle.std.specs.Prelude.{ℕ, List, ◌+◌, ◌*◌, ◌<◌, ◌≤◌, slice_index}
 use Rattle.sand_tiles.specs.declared.counting.Planes.{Planes}
 use Rattle.sand_tiles.specs.declared.counting.Recent.{Recent}
 use Rattle.sand_tiles.specs.Places.{bit}

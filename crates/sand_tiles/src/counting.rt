@@ -6,7 +6,7 @@
 //! the planes are spilled, before a carry can leave the last one: their counts are added to a list of 64 numbers, and
 //! they are cleared. The list is not beside the planes, so that the planes of many tiles stay in the nearest cache.
 
-ghost use Rattle.std.specs.Prelude.{◌≡◌, ℕ, ◌+◌, ◌*◌, ◌^◌, ◌<◌, ◌≤◌, slice_index, false};
+ghost use Rattle.std.specs.Prelude.{◌≡◌, ℕ, ◌+◌, ◌*◌, ◌^◌, ◌<◌, ◌≤◌, slice_index, false, true};
 ghost use Rattle.sand_model.specs.Sand.{sum_below};
 ghost use Rattle.sand_tiles.specs.Places.{bit, number};
 ghost use Rattle.sand_tiles.specs.Counts.{times, count_of, counted, IsRecent, no_recent};
@@ -145,6 +145,8 @@ pub fn spill(recent: &mut Recent, spilled: &mut [u64; 64])
 pub fn count_set(recent: &mut Recent, set: u64) -> bool
     requires sound { IsRecent recent.old }
     ensures each { (p : ℕ) → p < 64 → times recent.new.planes p ≡ times recent.old.planes p + bit set p }
+    ensures sets { recent.new.sets ≡ recent.old.sets + 1 }
+    ensures full { result ≡ true → recent.new.sets ≡ 1023 }
     ensures room { result ≡ false → IsRecent recent.new }
 {
     add_to(&mut recent.planes, set);
