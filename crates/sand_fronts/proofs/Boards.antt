@@ -24,6 +24,11 @@ row_after g j inside =
     let fits = mul-add-lt (j / w / 8 + 2) (pitch g) (j % w / 8 + 1) (down g + 2) (omega arith) (omega arith) in
     omega arith
 
+-- nor in the first
+row_before : (g : Grid) (j : ℕ) → pitch g ≤ tile_of g j
+unfolding tile_of
+row_before g j = omega arith
+
 pub tile_inside : (g : Grid) (j : ℕ) → j < sites g → tile_of g j < tiles g
 tile_inside g j inside = let r = row_after g j inside in omega arith
 
@@ -62,6 +67,7 @@ board_of g all sides one_each small each =
           let e = each k here in
           record {
             inside = here;
+            below = row_before g j;
             each = e;
             on_board = record {
               north = let n = e.north in omega arith;

@@ -2,6 +2,7 @@
 -- toppling.
 use Rattle.std.specs.Prelude.{ℕ, List, length, slice_index_or, slice_set, ◌≡◌, ◌≢◌, ◌+◌, ◌-◌, ◌*◌, ◌%◌, ◌^◌, ◌<◌, ◌≤◌, if◌then◌else◌, ◌==◌}
 use Rattle.sand_model.specs.Grid.{Grid, IsGrid, sites}
+use Rattle.sand_model.specs.declared.shape.Edge.TheVariants.{Open}
 use Rattle.sand_model.specs.Sand.{Stabilises, flow, one_at}
 use Rattle.sand_tiles.specs.declared.tile.Tile.{Tile}
 use Rattle.sand_tiles.specs.Places.{bit, height, had, Visits}
@@ -73,6 +74,11 @@ pub record IsBeside (g : Grid) (k : ℕ) (b : Beside) : Type 0 where
 abbrev pub open_beside : ℕ → ℕ → Beside
 open_beside row k = record { north = k - row; south = k + row; west = k - 1; east = k + 1; west_shift = 7; east_shift = 7 }
 
+-- the number of tiles in a row, on a grid with open edges
+pub record IsOpenRow (g : Grid) (row : ℕ) : Type 0 where
+  pub len : row ≡ pitch g
+  pub open_edge : g.edge ≡ Open
+
 -- what a visit makes of a tile, and the places that topple in it
 pub record Visited (t : Tile) (free start : ℕ) : Type 0 where
   pub tile : Tile
@@ -116,9 +122,10 @@ pub record IsOnBoard (n : ℕ) (b : Beside) : Type 0 where
   pub west_shift : b.west_shift ≤ 7
   pub east_shift : b.east_shift ≤ 7
 
--- tile k, and its four neighbours
+-- tile k, which is not in the first row, and its four neighbours
 pub record AtTile (g : Grid) (k : ℕ) (b : Beside) : Type 0 where
   pub inside : k < tiles g
+  pub below : pitch g ≤ k
   pub each : IsBeside g k b
   pub on_board : IsOnBoard (tiles g) b
 

@@ -1,18 +1,17 @@
 //! The tiles of a grid without their sand: which of their places are free, and which tiles are next to each other.
 
-ghost use Rattle.std.specs.Prelude.{◌≡◌, ℕ, ◌+◌, ◌*◌, ◌^◌, ◌<◌, length, IfOk, true};
+ghost use Rattle.std.specs.Prelude.{◌≡◌, ℕ, ◌+◌, ◌*◌, ◌^◌, ◌<◌, length, IfOk, IfSome};
 ghost use Rattle.sand_model.specs.Grid.{missing};
-ghost use Rattle.sand_model.specs.declared.shape.Edge.TheVariants.{Open};
 ghost use Rattle.sand_tiles.specs.Places.{number};
 ghost use Rattle.sand_fronts.specs.Tiling.{tiles, on_tiles};
-ghost use Rattle.sand_fronts.specs.Waves.{tile_at, beside_at, AreAllOpen, AtTile};
+ghost use Rattle.sand_fronts.specs.Waves.{tile_at, beside_at, AreAllOpen, AtTile, IsOpenRow};
 ghost use Rattle.sand_fronts.specs.Drops.{AreOutside};
 ghost use Rattle.sand_fronts.specs.Boards.{free_of, IsBoard};
 
 use crate::filling::{is_inner, tile_of};
 use crate::reach::Spot;
 use crate::sides::{Beside, all_sides, open_sides};
-use crate::tiling::{all_open, pitch, tiles};
+use crate::tiling::{all_open, tiles};
 use sand_model::Shape;
 use sand_tiles::{BARE, Tile};
 use std::alloc::{AllocError, Global};
@@ -93,19 +92,18 @@ impl Board {
         })
     }
 
-    /// The neighbours of a tile with sites. If `is_open` is known to the compiler, so are the shifts of an open grid, for
-    /// which no table is read.
+    /// The neighbours of a tile with sites. On a grid with open edges they are found from the number of tiles in a row, and
+    /// no table is read.
     #[inline(always)]
-    pub(crate) fn beside(&self, k: usize, is_open: bool) -> Beside
+    pub(crate) fn beside(&self, k: usize, open_row: Option<usize>) -> Beside
         requires board { IsBoard self.now }
         requires tile { AtTile self.now.shape k (beside_at self.now.beside.items k) }
-        requires edge { is_open ≡ true → self.now.shape.edge ≡ Open }
+        requires row { IfSome open_row (IsOpenRow self.now.shape) }
         ensures { result ≡ beside_at self.now.beside.items k }
     {
-        if is_open {
-            open_sides(pitch(self.shape), k)
-        } else {
-            self.beside[k]
+        match open_row {
+            Some(row) => open_sides(row, k),
+            None => self.beside[k],
         }
     }
 }

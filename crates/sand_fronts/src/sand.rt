@@ -25,17 +25,17 @@
 //! added to tiles that nobody reads. On a cylinder the tiles at the two ends of a row are neighbours, and the last
 //! column of the grid need not be the last of its tile: hence the shifts of `Beside`.
 
-ghost use Rattle.std.specs.Prelude.{◌≡◌, ◌≢◌, ℕ, ◌+◌, ◌<◌, ◌≤◌, length, slice_index, true};
+ghost use Rattle.std.specs.Prelude.{◌≡◌, ◌≢◌, ℕ, ◌+◌, ◌<◌, ◌≤◌, length, slice_index, IfSome};
 ghost use Rattle.sand_model.specs.IndexLists.{Joins};
-ghost use Rattle.sand_model.specs.declared.shape.Edge.TheVariants.{Open};
 ghost use Rattle.sand_tiles.specs.Places.{bit, IsReady};
 ghost use Rattle.sand_fronts.specs.Tiling.{tiles};
 ghost use Rattle.sand_fronts.specs.TileLists.{but, waits, AreListed, AreKept};
-ghost use Rattle.sand_fronts.specs.Waves.{only, AreOpen, AreAtRest, AtTile, IsOnBoard, IsDropSite, IsWholeWave, beside_at, over_rim, tile_at, AreVisited, Steps, PairSteps};
+ghost use Rattle.sand_fronts.specs.Waves.{only, AreOpen, AreAtRest, AtTile, IsOnBoard, IsOpenRow, IsDropSite, IsWholeWave, beside_at, over_rim, tile_at, AreVisited, Steps, PairSteps};
 ghost use Rattle.sand_fronts.specs.Boards.{tiles_of, free_of, IsBoard, IsSand, Gets};
 
 use crate::board::{Board, DropSite};
 use crate::sides::Beside;
+use crate::tiling::pitch;
 use core::mem::replace_with;
 use sand_model::{Edge, IndexList};
 use sand_tiles::{Tile, receive, set_of, visit, visit_pair};
@@ -103,9 +103,9 @@ impl Sand {
 
     // Visits a tile, and hands over the grains that leave it.
     #[inline(always)]
-    fn topple_tile(&mut self, board: &Board, is_open: bool, k: usize, start: u64)
+    fn topple_tile(&mut self, board: &Board, open_row: Option<usize>, k: usize, start: u64)
         requires board { IsBoard board.now }
-        requires edge { is_open ≡ true → board.now.shape.edge ≡ Open }
+        requires row { IfSome open_row (IsOpenRow board.now.shape) }
         requires sand { IsSand board.now.shape self.old }
         requires tile { AtTile board.now.shape k (beside_at board.now.beside.items k) }
         requires ready { IsReady (tiles_of self.old k) (free_of board.now k) start }
@@ -117,14 +117,14 @@ impl Sand {
             (waits (tiles_of self.new)) self.old.list self.new.list }
     {
         let new = visit(&mut self.tiles[k], board.free[k], start);
-        self.hand_over(board, &board.beside(k, is_open), new);
+        self.hand_over(board, &board.beside(k, open_row), new);
     }
 
     // Visits two tiles side by side, and only then hands over the grains that leave them.
     #[inline(always)]
-    fn topple_pair(&mut self, board: &Board, is_open: bool, j: usize, k: usize)
+    fn topple_pair(&mut self, board: &Board, open_row: Option<usize>, j: usize, k: usize)
         requires board { IsBoard board.now }
-        requires edge { is_open ≡ true → board.now.shape.edge ≡ Open }
+        requires row { IfSome open_row (IsOpenRow board.now.shape) }
         requires sand { IsSand board.now.shape self.old }
         requires different { j ≢ k }
         requires tile { AtTile board.now.shape j (beside_at board.now.beside.items j) }
@@ -145,8 +145,8 @@ impl Sand {
             board.free[j],
             board.free[k],
         );
-        self.hand_over(board, &board.beside(j, is_open), new_one);
-        self.hand_over(board, &board.beside(k, is_open), new_two);
+        self.hand_over(board, &board.beside(j, open_row), new_one);
+        self.hand_over(board, &board.beside(k, open_row), new_two);
     }
 
     /// One wave: the dropped site topples, then each other site that this brings to 4, once each. Lists their tiles.
@@ -163,11 +163,14 @@ impl Sand {
             → slice_index self.new.list.items t < tiles board.now.shape }
     {
         match board.shape.edge() {
-            Edge::Open => replace_with(self, (), |sand, ()| {
-                (topple_turns(sand, board, drop, true), ())
-            }),
+            Edge::Open => {
+                let row = pitch(board.shape);
+                replace_with(self, (), |sand, ()| {
+                    (topple_turns(sand, board, drop, Some(row)), ())
+                })
+            }
             Edge::Cylinder => replace_with(self, (), |sand, ()| {
-                (topple_turns(sand, board, drop, false), ())
+                (topple_turns(sand, board, drop, None), ())
             }),
         }
     }
@@ -176,10 +179,10 @@ impl Sand {
 // The same on sand that it owns, so that the compiler keeps the length of the list in a register: behind a reference it
 // would be read again after each grain. Compiled once for each edge.
 #[inline(always)]
-fn topple_turns(sand: Sand, board: &Board, drop: DropSite, is_open: bool) -> Sand
+fn topple_turns(sand: Sand, board: &Board, drop: DropSite, open_row: Option<usize>) -> Sand
     requires drop { IsDropSite board.now.shape drop }
     requires board { IsBoard board.now }
-    requires edge { is_open ≡ true → board.now.shape.edge ≡ Open }
+    requires row { IfSome open_row (IsOpenRow board.now.shape) }
     requires sand { IsSand board.now.shape sand }
     requires all_open { AreOpen board.now.shape drop.site (free_of board.now) }
     requires rest { AreAtRest board.now.shape drop.site (tiles_of sand) }
@@ -190,7 +193,7 @@ fn topple_turns(sand: Sand, board: &Board, drop: DropSite, is_open: bool) -> San
     let mut sand = sand;
     sand.list.clear();
     sand.list.push_if(drop.tile, true);
-    sand.topple_tile(board, is_open, drop.tile, set_of(drop.place));
+    sand.topple_tile(board, open_row, drop.tile, set_of(drop.place));
     let (mut position, mut kept) = (1usize, 1usize);
     'turns: while position < sand.list.len() {
         let k = sand.list.item(position);
@@ -200,11 +203,11 @@ fn topple_turns(sand: Sand, board: &Board, drop: DropSite, is_open: bool) -> San
             let other_first = sand.tiles[other].wave == 0;
             kept = sand.list.keep_if(kept, k, first);
             kept = sand.list.keep_if(kept, other, other_first);
-            sand.topple_pair(board, is_open, k, other);
+            sand.topple_pair(board, open_row, k, other);
             position += 2;
         } else {
             kept = sand.list.keep_if(kept, k, first);
-            sand.topple_tile(board, is_open, k, 0);
+            sand.topple_tile(board, open_row, k, 0);
             position += 1;
         }
     }

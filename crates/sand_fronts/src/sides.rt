@@ -5,7 +5,7 @@
 //! row with sites are neighbours instead, across the seam. There the last column of the grid, which may be any column
 //! of its tile, is next to the first: a grain moves from one to the other by a shift over that many columns.
 
-ghost use Rattle.std.specs.Prelude.{◌≡◌, ◌-◌, ◌^◌, ◌<◌, ◌==◌, ◌&&◌, ◌%◌, IfOk};
+ghost use Rattle.std.specs.Prelude.{◌≡◌, ◌-◌, ◌^◌, ◌<◌, ◌≤◌, ◌==◌, ◌&&◌, ◌%◌, IfOk};
 ghost use Rattle.sand_model.specs.Grid.{joins};
 ghost use Rattle.sand_fronts.specs.Tiling.{pitch, to_west, to_east, shift_west, shift_east};
 ghost use Rattle.sand_fronts.specs.Waves.{open_beside, IsBeside, AreBeside};
@@ -75,27 +75,29 @@ fn sides_of(shape: Shape, k: usize) -> Beside
     requires { k < 2 ^ 32 }
     ensures { IsBeside shape k result }
 {
+    let row = pitch(shape);
     let (west, west_shift) = west_of(shape, k);
     let (east, east_shift) = east_of(shape, k);
     Beside {
+        north: k.saturating_sub(row),
+        south: k + row,
         west,
         east,
         west_shift,
         east_shift,
-        ..open_sides(pitch(shape), k)
     }
 }
 
 /// The neighbours of a tile of a grid with open edges, in which a row has this many tiles.
 #[inline(always)]
 pub(crate) fn open_sides(row: usize, k: usize) -> Beside
-    requires { (k < 2 ^ 32) × (row < 2 ^ 32) }
+    requires { (1 ≤ row) × (row ≤ k) × (k < 2 ^ 32) }
     ensures { result ≡ open_beside row k }
 {
     Beside {
-        north: k.saturating_sub(row),
+        north: k - row,
         south: k + row,
-        west: k.saturating_sub(1),
+        west: k - 1,
         east: k + 1,
         west_shift: 7,
         east_shift: 7,

@@ -109,7 +109,7 @@ topple_pair-requires c =
     let room = c.turns.invariant.sand.room in
     rw (c.keep_if-kept-then-position-len.ensures.list, c.keep_if-kept.ensures.list) (record {
       board = c.requires.board;
-      edge = c.requires.edge;
+      row = c.requires.row;
       sand = record { len = c.turns.invariant.sand.len; room = room };
       different = t.0;
       tile = t.1.tile;
@@ -166,7 +166,7 @@ topple_tile-requires-else-position-len c =
     let room = c.turns.invariant.sand.room in
     rw (c.keep_if-kept-else-position-len.ensures.list) (record {
       board = c.requires.board;
-      edge = c.requires.edge;
+      row = c.requires.row;
       sand = record { len = c.turns.invariant.sand.len; room = room };
       tile = t.0.tile;
       ready = t.0.ready;

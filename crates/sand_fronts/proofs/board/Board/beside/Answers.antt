@@ -1,10 +1,11 @@
 use Rattle.std.proofs.Common.{◌∙◌, ap}
-use Rattle.sand_fronts.specs.Waves.{open_beside, beside_at}
+use Rattle.sand_fronts.specs.Waves.{open_beside, beside_at, IsOpenRow}
 use Rattle.sand_fronts.proofs.Boards.{beside_open}
 use Rattle.sand_fronts.proofs.board.Board.beside.Goals as goal
 
-pub returns-then-is_open : goal.returns-then-is_open
-returns-then-is_open c =
-    c.open_sides.ensures ∙ ap (λ row. open_beside row c.args.k) c.pitch.ensures.value
+pub returns-in-Some : goal.returns-in-Some
+returns-in-Some c =
+    let known : IsOpenRow c.args.self.now.shape c.in-Some.row = rw c.in-Some.is at c.requires.row in
+    c.open_sides.ensures ∙ ap (λ row. open_beside row c.args.k) known.len
     ∙ beside_open c.args.self.now.shape c.args.k (beside_at c.args.self.now.beside.items c.args.k)
-    (c.requires.edge c.if-is_open.true) c.requires.tile.each
+    known.open_edge c.requires.tile.each
