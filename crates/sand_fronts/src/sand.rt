@@ -71,34 +71,33 @@ pub(crate) struct Sand {
 impl Sand {
     // Adds a grain at each place of a set in a tile, and lists the tile if a place becomes due and none was before.
     #[inline(always)]
-    fn gain(&mut self, board: &Board, k: usize, gain: u64)
+    fn gain(&mut self, free: &[u64], k: usize, gain: u64)
         requires inside { k < length self.old.tiles.items }
         requires fits { length self.old.tiles.items ≤ 65536 }
-        requires len { length board.now.free.items ≡ length self.old.tiles.items }
+        requires len { length free.now ≡ length self.old.tiles.items }
         requires room { length self.old.list.items < self.old.list.room }
-        ensures { Gets (free_of board.now) 1 (only k (bit gain)) self.old self.new }
+        ensures { Gets (slice_index free.now) 1 (only k (bit gain)) self.old self.new }
     {
-        let free = board.free[k];
         let tile = &mut self.tiles[k];
         let before = tile.due;
-        receive(tile, gain, free);
+        receive(tile, gain, free[k]);
         let after = tile.due;
         self.list.push_if(k, (before == 0) & (after != 0));
     }
 
     // Gives the grains that leave a tile to the four tiles next to it.
     #[inline(always)]
-    fn hand_over(&mut self, board: &Board, beside: &Beside, new: u64)
+    fn hand_over(&mut self, free: &[u64], beside: &Beside, new: u64)
         requires beside { IsOnBoard (length self.old.tiles.items) beside.now }
         requires fits { length self.old.tiles.items ≤ 65536 }
-        requires len { length board.now.free.items ≡ length self.old.tiles.items }
+        requires len { length free.now ≡ length self.old.tiles.items }
         requires room { length self.old.list.items + 4 ≤ self.old.list.room }
-        ensures { Gets (free_of board.now) 4 (over_rim beside.now new) self.old self.new }
+        ensures { Gets (slice_index free.now) 4 (over_rim beside.now new) self.old self.new }
     {
-        self.gain(board, beside.north, new << 56);
-        self.gain(board, beside.south, new >> 56);
-        self.gain(board, beside.west, (new & FIRST) << beside.west_shift);
-        self.gain(board, beside.east, new >> beside.east_shift & FIRST);
+        self.gain(free, beside.north, new << 56);
+        self.gain(free, beside.south, new >> 56);
+        self.gain(free, beside.west, (new & FIRST) << beside.west_shift);
+        self.gain(free, beside.east, new >> beside.east_shift & FIRST);
     }
 
     // Visits a tile, and hands over the grains that leave it.
@@ -116,8 +115,9 @@ impl Sand {
         ensures joins { Joins (tiles board.now.shape) 4 (but k (waits (tiles_of self.old)))
             (waits (tiles_of self.new)) self.old.list self.new.list }
     {
-        let new = visit(&mut self.tiles[k], board.free[k], start);
-        self.hand_over(board, &board.beside(k, open_row), new);
+        let free = board.free.as_slice();
+        let new = visit(&mut self.tiles[k], free[k], start);
+        self.hand_over(free, &board.beside(k, open_row), new);
     }
 
     // Visits two tiles side by side, and only then hands over the grains that leave them.
@@ -138,15 +138,10 @@ impl Sand {
         ensures joins { Joins (tiles board.now.shape) 8 (but k (but j (waits (tiles_of self.old))))
             (waits (tiles_of self.new)) self.old.list self.new.list }
     {
-        let (new_one, new_two) = visit_two(
-            self.tiles.as_mut_slice(),
-            j,
-            k,
-            board.free[j],
-            board.free[k],
-        );
-        self.hand_over(board, &board.beside(j, open_row), new_one);
-        self.hand_over(board, &board.beside(k, open_row), new_two);
+        let free = board.free.as_slice();
+        let (new_one, new_two) = visit_two(self.tiles.as_mut_slice(), j, k, free[j], free[k]);
+        self.hand_over(free, &board.beside(j, open_row), new_one);
+        self.hand_over(free, &board.beside(k, open_row), new_two);
     }
 
     /// One wave: the dropped site topples, then each other site that this brings to 4, once each. Lists their tiles. It

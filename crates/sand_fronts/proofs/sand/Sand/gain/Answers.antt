@@ -1,7 +1,7 @@
 use Rattle.std.proofs.Common.{arith}
-use Rattle.std.proofs.lemmas.List.{length-set, get_or_read}
+use Rattle.std.specs.Prelude.{slice_index}
+use Rattle.std.proofs.lemmas.List.{length-set}
 use Rattle.sand_tiles.specs.declared.tile.Tile.{Tile}
-use Rattle.sand_fronts.specs.Boards.{free_of}
 use Rattle.sand_fronts.proofs.Gained.{tile_read, gains_one}
 use Rattle.sand_fronts.proofs.TileLists.{joins_one}
 use Rattle.sand_fronts.proofs.sand.Sand.gain.Goals as goal
@@ -12,12 +12,10 @@ returns c =
     let k = c.args.k in
     let new = c.receive.new.tile in
     let read = tile_read ts k c.index_mut-tile.result.now c.requires.inside c.index_mut-tile.ensures.value in
-    let word = get_or_read c.args.board.now.free.items k c.index-free.result.now
-    (omega (arith, c.requires.inside, c.requires.len)) c.index-free.ensures 0 in
     record {
       len = length-set {A = Tile} ts k new;
-      gains = gains_one (free_of c.args.board.now) ts k new c.args.gain c.requires.inside
-          (rw (← read, ← word) c.receive.ensures);
+      gains = gains_one (slice_index c.args.free.now) ts k new c.args.gain c.requires.inside
+          (rw (← read) c.receive.ensures);
       joins = joins_one ts k c.index_mut-tile.result.now new
           c.args.self.now.list c.push_if.new.self c.requires.inside read (omega arith) (omega arith) c.receive.ensures.due_grows c.push_if.ensures;
     }

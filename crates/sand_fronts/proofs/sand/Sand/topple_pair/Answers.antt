@@ -1,7 +1,7 @@
 use Rattle.std.proofs.Common.{List, cond, eqb, ap, sym, ◌≡◌, ◌+◌, ◌<◌, ◌∙◌, length, refl, arith}
 use Rattle.std.specs.Vec.{with_items}
 use Rattle.std.proofs.Math.ListN.{set}
-use Rattle.std.proofs.lemmas.List.{length-set, get_or_read, with_items_is}
+use Rattle.std.proofs.lemmas.List.{length-set, with_items_is}
 use Rattle.sand_model.proofs.IndexLists.{joins_from}
 use Rattle.sand_tiles.specs.declared.tile.Tile.{Tile}
 use Rattle.sand_fronts.specs.Waves.{tile_at, over_rim, AreVisited}
@@ -32,8 +32,9 @@ written_all c = with_items_is c.args.self.now.tiles c.visit_two-new_one.new.tile
     (c.visit_two-new_one.ensures.len ∙ c.as_mut_slice.ensures.len)
 
 visited : (c : After-hand_over-2) → AreVisited c.args.self.now.tiles.items (after c) c.args.j c.args.k
-    c.index.result.now c.index-2.result.now c.visit_two-new_one.result.0 c.visit_two-new_one.result.1
-visited c = rw (written_all c, ← c.as_mut_slice.ensures.value) c.visit_two-new_one.ensures.visited
+    (free_of c.args.board.now c.args.j) (free_of c.args.board.now c.args.k)
+    c.visit_two-new_one.result.0 c.visit_two-new_one.result.1
+visited c = rw (written_all c, ← c.as_mut_slice.ensures.value, ← c.as_slice-free.ensures.value) c.visit_two-new_one.ensures.visited
 
 -- what both have handed over
 both : (c : After-hand_over-2) → Gets (free_of c.args.board.now) 8
@@ -41,32 +42,27 @@ both : (c : After-hand_over-2) → Gets (free_of c.args.board.now) 8
     + over_rim c.beside-2.result c.visit_two-new_one.result.1 m p)
     (record c.args.self.now { tiles = with_items c.args.self.now.tiles c.visit_two-new_one.new.tiles })
     c.hand_over-2.new.self
-both c = gets_more _ c.hand_over.ensures c.hand_over-2.ensures (λ m p low. refl)
+both c = rw (← c.as_slice-free.ensures.value)
+    (gets_more _ c.hand_over.ensures c.hand_over-2.ensures (λ m p low. refl))
 
 pub returns-clause-steps : goal.returns-clause-steps
 returns-clause-steps c =
     let ts = c.args.self.now.tiles.items in
-    let free = c.args.board.now.free.items in
     let j = c.args.j in
     let k = c.args.k in
     let v = visited c in
     let within = inside c v.one in
-    let board = c.requires.board in
-    let j_in = c.requires.tile.inside in
-    let k_in = c.requires.other_tile.inside in
-    let f = get_or_read free j _ (omega (arith, j_in, board.free_each)) c.index.ensures 0 in
-    let h = get_or_read free k _ (omega (arith, k_in, board.free_each)) c.index-2.ensures 0 in
     record {
       one = record {
         tile = v.one;
         new = c.visit_two-new_one.result.0;
-        visits = rw (← f) v.visits;
+        visits = v.visits;
         fits = omega arith;
       };
       two = record {
         tile = v.two;
         new = c.visit_two-new_one.result.1;
-        visits = rw (← h) v.other_visits;
+        visits = v.other_visits;
         fits = omega arith;
       };
       gains = rw (← c.beside.ensures, ← c.beside-2.ensures) (gains_from
