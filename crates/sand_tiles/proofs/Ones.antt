@@ -1,16 +1,15 @@
 -- The number of places in a set.
-use Rattle.std.proofs.Common.{ℕ, zero, suc, ◌≡◌, ◌+◌, ◌*◌, ◌/◌, ◌%◌, ◌^◌, ◌<◌, ◌≤◌, refl, ◌∙◌, ap, arith, ⊎_elim}
+use Rattle.std.proofs.Common.{ℕ, zero, suc, ◌≡◌, ◌+◌, ◌*◌, ◌/◌, ◌%◌, ◌^◌, ◌<◌, ◌≤◌, refl, ◌∙◌, ap, arith}
 use Rattle.std.specs.Prelude.{bit_and, count_ones}
 use Rattle.std.specs.Int.{bit_at}
 use Rattle.std.specs.Int.Count.{ones, ones_step}
 use Rattle.std.proofs.lemmas.Nat.{ones_cat, mod-pow-add, pow_pos}
-use Rattle.std.proofs.lemmas.Bool.{cases_eq}
 use Rattle.std.proofs.lemmas.Nat.Bits.{bit_at-lt}
 use Rattle.sand_model.proofs.SumsBelow.{sum_below_same, sum_below-add, sum_below-scale}
 use Rattle.sand_model.proofs.Bounds.{at_most_all}
 use Rattle.sand_model.specs.Sand.{sum_below}
 use Rattle.sand_tiles.specs.Places.{bit}
-use Rattle.sand_tiles.proofs.Bits.{bit_le, both_le}
+use Rattle.sand_tiles.proofs.Bits.{bit_le, at_place}
 
 ones_zero : ones 0 ≡ 0
 unfolding ones
@@ -42,14 +41,7 @@ few_ones set = at_most_all 64 (bit set) (λ p low. bit_le set p)
 -- ---- three-bit numbers, summed over the places of a set
 
 both_is : (a b p : ℕ) → bit (bit_and a b) p ≡ bit a p * bit b p
-both_is a b p =
-    let le = both_le a b p in
-    let l0 = le.0 in let l1 = le.1 in let l2 = le.2 in
-    let few = bit_le a p in
-    ⊎_elim
-    (λ (one : bit a p ≡ 1). let e = ap (λ x. x * bit b p) one in omega arith)
-    (λ (none : bit a p ≡ 1 → ⊥). let z : bit a p ≡ 0 = omega arith in let e = ap (λ x. x * bit b p) z in omega arith)
-    (cases_eq (bit a p) 1)
+both_is a b p = grind (arith, at_place)
 
 spread_out : (s l h d : ℕ) → s * l + 2 * (s * h) + 4 * (s * d) ≡ (l + 2 * h + 4 * d) * s
 spread_out s l h d = grind arith
@@ -62,14 +54,13 @@ ones_of_sum low high due set =
     let x = bit_and set low in
     let y = bit_and set high in
     let z = bit_and set due in
-    let twos = sum_below-scale 64 2 (bit y) in
-    let fours = sum_below-scale 64 4 (bit z) in
-    let two = sum_below-add 64 (bit x) (λ p. 2 * bit y p) in
-    let three = sum_below-add 64 (λ p. bit x p + 2 * bit y p) (λ p. 4 * bit z p) in
     let same = sum_below_same 64 (λ p. bit x p + 2 * bit y p + 4 * bit z p)
     (λ p. (bit low p + 2 * bit high p + 4 * bit due p) * bit set p)
-    (λ p below.
-    let a = both_is set low p in let b = both_is set high p in let c = both_is set due p in
-    let e = spread_out (bit set p) (bit low p) (bit high p) (bit due p) in
-    omega arith) in
-    omega arith
+    (λ p below. omega (arith, both_is, spread_out (bit set p) (bit low p) (bit high p) (bit due p))) in
+    omega (
+      arith,
+      sum_below-scale 64 2 (bit y),
+      sum_below-scale 64 4 (bit z),
+      sum_below-add 64 (bit x) (λ p. 2 * bit y p),
+      sum_below-add 64 (λ p. bit x p + 2 * bit y p) (λ p. 4 * bit z p),
+    )

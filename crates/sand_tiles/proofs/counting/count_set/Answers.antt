@@ -5,10 +5,6 @@ use Rattle.sand_tiles.proofs.counting.count_set.Goals as goal
 
 pub returns-clause-room : goal.returns-clause-room
 returns-clause-room c full = record {
-  bound = let ne = eqb-false _ _ full in omega (arith, c.requires.sound.bound, ne);
-  each = λ p low.
-      let few = c.requires.sound.each p low in
-      let more = c.add_to.ensures p low in
-      let one = bit_le c.args.set p in
-      omega arith;
+  bound = omega (arith, c.requires.sound.bound, eqb-false _ _ full);
+  each = λ p low. omega (arith, bit_le, c.requires.sound.each p low, c.add_to.ensures p low);
 }

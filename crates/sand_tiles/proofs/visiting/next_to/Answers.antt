@@ -1,14 +1,6 @@
 use Rattle.std.proofs.Common.{arith}
-use Rattle.std.specs.Prelude.{bit_or}
-use Rattle.sand_tiles.proofs.Bits.{either}
+use Rattle.sand_tiles.proofs.Bits.{at_place}
 use Rattle.sand_tiles.proofs.visiting.next_to.Goals as goal
 
 pub returns : goal.returns
-returns c p low =
-    let to = c.moved-south.result in
-    let m = c.moved-south.ensures p low in
-    let m0 = m.0 in let m1 = m.1 in let m2 = m.2 in let m3 = m.3 in
-    let x = either to.0 to.1 p in
-    let y = either (bit_or to.0 to.1) to.2 p in
-    let z = either (bit_or (bit_or to.0 to.1) to.2) to.3 p in
-    omega arith
+returns c p low = omega (arith, at_place, c.moved-south.ensures p low)
