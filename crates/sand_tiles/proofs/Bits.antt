@@ -1,5 +1,5 @@
 -- Words as sets of places: what the operators on words do to each place.
-use Rattle.std.proofs.Common.{ℕ, ◌≡◌, ◌+◌, ◌-◌, ◌*◌, ◌/◌, ◌%◌, ◌^◌, ◌<◌, ◌≤◌, min, arith}
+use Rattle.std.proofs.Common.{ℕ, ◌≡◌, ◌+◌, ◌-◌, ◌*◌, ◌/◌, ◌^◌, ◌<◌, ◌≤◌, arith}
 use Rattle.std.specs.Prelude.{bit_and, bit_or, bit_xor}
 use Rattle.std.specs.Int.{w64, bit_not}
 use Rattle.std.proofs.lemmas.Nat.{and_le_l, or_disjoint}
@@ -8,15 +8,12 @@ use Rattle.sand_tiles.specs.Places.{bit}
 
 pub bit_le : (a p : ℕ) → bit a p ≤ 1
 unfolding bit
-bit_le a p = let b = bit_at-lt a p in omega arith
-
-half_of : (x y : ℕ) → x < 2 → y < 2 → (x + y) % 2 + 2 * min x y ≡ x + y
-half_of x y a b = omega arith
+bit_le a p = omega (arith, bit_at-lt a p)
 
 -- two sets added at each place: sum and carry
 pub half : (a b p : ℕ) → bit (bit_xor a b) p + 2 * bit (bit_and a b) p ≡ bit a p + bit b p
 unfolding bit
-half a b p = rw (bit_at_xor a b p, bit_at_and a b p) (half_of _ _ (bit_at-lt a p) (bit_at-lt b p))
+half a b p = rw (bit_at_xor a b p, bit_at_and a b p) (omega (arith, bit_at-lt a p, bit_at-lt b p))
 
 pub either : (a b p : ℕ) → bit (bit_or a b) p + bit (bit_and a b) p ≡ bit a p + bit b p
 unfolding bit
