@@ -4,8 +4,8 @@ use Rattle.sand_tiles.proofs.visiting.moved.Goals as goal
 
 pub returns : goal.returns
 returns c p low = (
-  north_of c.args.set p low,
-  south_of c.args.set p (omega arith) low,
-  west_of c.args.set p low,
-  east_of c.args.set p low,
+  omega (arith, north_of c.args.set p low),
+  omega (arith, south_of c.args.set p (omega arith) low),
+  omega (arith, west_of c.args.set p low),
+  omega (arith, east_of c.args.set p low),
 )
