@@ -1,11 +1,25 @@
 -- Heights have one settled record, which depends only on those at the sites of the grid.
-use Rattle.std.proofs.Common.{ℕ, ◌≡◌, ◌<◌, ◌∙◌, refl, sym, arith, get_or}
+use Rattle.std.proofs.Common.{ℕ, ◌≡◌, ◌<◌, ◌∙◌, refl, sym, subst, arith}
+use Rattle.std.specs.Prelude.{slice_index}
 use Rattle.std.proofs.lemmas.List.{ext_get_or}
 use Rattle.sand_model.specs.Grid.{Grid, sites}
 use Rattle.sand_model.specs.Sand.{topplings, lost}
 use Rattle.sand_model.specs.Piles.{height_of}
 use Rattle.sand_model.proofs.Sandpile.{settled_once, settled_same}
-use Rattle.sand_settle.specs.Settling.{SettledView, IsSettledRecord, odometer_of}
+use Rattle.sand_settle.specs.Settling.{SettledView, IsSettledRecord, IsSomeSettledRecord, odometer_of}
+
+-- records with the same parts are the same
+pub same_parts : {r q : SettledView} → r.pile.grid ≡ q.pile.grid → r.pile.heights ≡ q.pile.heights
+    → r.odometer ≡ q.odometer → r.topplings ≡ q.topplings → r.lost ≡ q.lost → r ≡ q
+same_parts grid heights odometer topplings lost = λ i. record {
+  pile = record { grid = grid i; heights = heights i };
+  odometer = odometer i;
+  topplings = topplings i;
+  lost = lost i;
+}
+
+pub some_record : {g : Grid} {s : ℕ → ℕ} {r : SettledView} → IsSettledRecord g s r → IsSomeSettledRecord r
+some_record {g} {s} {r} is = (s, subst (λ h. IsSettledRecord h s r) (sym is.grid) is)
 
 pub record_by_site : (g : Grid) (s t : ℕ → ℕ) (r : SettledView) → ((i : ℕ) → i < sites g → s i ≡ t i)
     → IsSettledRecord g s r → IsSettledRecord g t r
@@ -34,13 +48,6 @@ module _ (g : Grid) (s : ℕ → ℕ) (r q : SettledView)
       (λ i l. let each = first.heights_each in (once i (omega arith)).1)
 
   pub one_record : r ≡ q
-  one_record =
-      let topplings_are =
-      first.all_topplings ∙ (λ k. topplings g (λ i. get_or (same_odometer k) i 0)) ∙ sym second.all_topplings in
-      let lost_are = first.all_lost ∙ (λ k. lost g (λ i. get_or (same_odometer k) i 0)) ∙ sym second.all_lost in
-      λ k. record {
-        pile = record { grid = (first.grid ∙ sym second.grid) k; heights = same_heights k };
-        odometer = same_odometer k;
-        topplings = topplings_are k;
-        lost = lost_are k;
-      }
+  one_record = same_parts (first.grid ∙ sym second.grid) same_heights same_odometer
+      (first.all_topplings ∙ (λ k. topplings g (slice_index (same_odometer k))) ∙ sym second.all_topplings)
+      (first.all_lost ∙ (λ k. lost g (slice_index (same_odometer k))) ∙ sym second.all_lost)

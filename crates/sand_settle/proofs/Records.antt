@@ -1,5 +1,5 @@
 -- The settled record of a pile, from its parts.
-use Rattle.std.proofs.Common.{ℕ, ◌≡◌, ◌-◌, ◌*◌, ◌^◌, ◌<◌, ◌≤◌, ◌∙◌, refl, sym, ap, arith, List, length, replicate, sum, get_or}
+use Rattle.std.proofs.Common.{ℕ, ◌≡◌, ◌-◌, ◌*◌, ◌^◌, ◌<◌, ◌≤◌, ◌∙◌, refl, sym, ap, subst, arith, List, length, replicate, sum, get_or}
 use Rattle.std.specs.Prelude.{slice_index}
 use Rattle.std.proofs.lemmas.List.{length-replicate}
 use Rattle.sand_model.specs.Grid.{Grid, sites, missing}
@@ -11,44 +11,49 @@ use Rattle.sand_model.proofs.Bounds.{topplings_bound}
 use Rattle.sand_model.proofs.SumsBelow.{sum_below_same, sum_below-zero}
 use Rattle.sand_model.proofs.Underway.{underway_start, underway_end}
 use Rattle.sand_settle.specs.Settling.{SettledView, IsSettledRecord, odometer_of}
+use Rattle.sand_settle.proofs.OneRecord.{same_parts}
 use Rattle.sand_settle.proofs.Underway.{zero_at}
 
--- a settling of a pile, with the odometer u and the heights h
+-- the settled record of a pile with the odometer u and the heights h
+abbrev pub settled_view : PileView → List ℕ → List ℕ → SettledView
+settled_view start u h = record {
+  pile = record { grid = start.grid; heights = h };
+  odometer = u;
+  topplings = sum u;
+  lost = sum start.heights - sum h;
+}
+
+-- a settling of a pile
 pub record Settles (start : PileView) (u h : List ℕ) : Type 0 where
   pub few : sum u < 2 ^ 54
   pub half : 2 * sum u ≤ weight start.grid (height_of start)
   pub left : sum h ≤ sum start.heights
+  pub made : IsSettledRecord start.grid (height_of start) (settled_view start u h)
 
-pub settles : (start : PileView) (u h : List ℕ) → IsPile start → length u ≡ sites start.grid
+pub settles : {start : PileView} {u h : List ℕ} → IsPile start → length u ≡ sites start.grid
     → length h ≡ sites start.grid → IsSettled start.grid (height_of start) (slice_index u) (slice_index h)
     → Settles start u h
-settles start u h pile counts heights done =
-    let whole = sum_is_grains start.grid start.heights pile.len in
-    let all = topplings_bound start.grid (height_of start) (slice_index u) (slice_index h)
+settles {start} {u} {h} pile counts heights done =
+    let g = start.grid in
+    let whole = sum_is_grains g start.heights pile.len in
+    let all = topplings_bound g (height_of start) (slice_index u) (slice_index h)
     pile.grid (omega (arith, pile.limit)) done.toppled in
-    let falls = weight_after start.grid (height_of start) (slice_index u) (slice_index h) done.toppled in
-    let sum_is = sum_is_grains start.grid u counts in
+    let falls = weight_after g (height_of start) (slice_index u) (slice_index h) done.toppled in
+    let sum_is = sum_is_grains g u counts in
+    let kept = sum_left g start.heights h (slice_index u) pile.len heights done.toppled in
     record {
       few = omega arith;
       half = omega arith;
-      left = omega (arith, sum_left start.grid start.heights h (slice_index u) pile.len heights done.toppled);
+      left = omega arith;
+      made = record {
+        grid = refl;
+        heights_each = heights;
+        odometer_each = counts;
+        settled = done;
+        all_topplings = sum_is;
+        all_lost = omega arith;
+      };
     }
-
-pub record_is : (start : PileView) (r : SettledView) → IsPile start
-    → r.pile.grid ≡ start.grid → length r.pile.heights ≡ sites start.grid
-    → length r.odometer ≡ sites start.grid
-    → IsSettled start.grid (height_of start) (odometer_of r) (height_of r.pile)
-    → r.topplings ≡ sum r.odometer → r.lost ≡ sum start.heights - sum r.pile.heights
-    → IsSettledRecord start.grid (height_of start) r
-record_is start r pile same heights counts done all gone = record {
-  grid = same;
-  heights_each = heights;
-  odometer_each = counts;
-  settled = done;
-  all_topplings = all ∙ sum_is_grains start.grid r.odometer counts;
-  all_lost =
-      omega (arith, sum_left start.grid start.heights r.pile.heights (odometer_of r) pile.len heights done.toppled);
-}
 
 -- no site of a stable pile topples
 pub stable_record : (g : Grid) (h u : List ℕ) → length h ≡ sites g → u ≡ replicate (sites g) 0
@@ -81,11 +86,5 @@ pub same_record : (g : Grid) (s : ℕ → ℕ) (r : SettledView) (heights odomet
       topplings = topplings;
       lost = lost;
     })
-same_record g s r heights odometer topplings lost is h o t l = rw (h, o, t, l) record {
-  grid = refl;
-  heights_each = is.heights_each;
-  odometer_each = is.odometer_each;
-  settled = is.settled;
-  all_topplings = is.all_topplings;
-  all_lost = is.all_lost;
-}
+same_record g s r heights odometer topplings lost is h o t l =
+    subst (IsSettledRecord g s) (same_parts is.grid (sym h) (sym o) (sym t) (sym l)) is

@@ -1,7 +1,8 @@
 -- Lists of the sites that may topple, when one height is written.
-use Rattle.std.proofs.Common.{ℕ, Bool, ◌≡◌, ◌≢◌, ◌+◌, ◌-◌, ◌*◌, ◌/◌, ◌<◌, ◌≤◌, refl, sym, ◌∙◌, ap, subst, drop, arith, List, [], ◌∷◌, ◌++◌, length, get_or, cond, ltb, leb, not, ◌&&◌, ⊎_elim}
+use Rattle.std.proofs.Common.{ℕ, Bool, ◌≡◌, ◌≢◌, ◌+◌, ◌-◌, ◌*◌, ◌/◌, ◌<◌, ◌≤◌, refl, sym, ◌∙◌, ap, subst, drop, arith, List, [], ◌∷◌, ◌++◌, length, get_or, cond, ltb, leb, not, ◌&&◌}
 use Rattle.std.proofs.Math.ListN.{set}
-use Rattle.std.proofs.lemmas.Bool.{cases_lt, lt-leb, le-leb, lt-ltb, le-ltb, leb-true, leb-false}
+use Rattle.std.proofs.lemmas.Bool.{lt-leb, le-leb, leb-true, leb-false}
+use Rattle.std.proofs.lemmas.Bool.Decides.{nat_tests}
 use Rattle.std.proofs.lemmas.List.{get_or-set_same, get_or-set_other, drop_more}
 use Rattle.sand_model.specs.Lists.{Lists}
 use Rattle.sand_model.specs.IndexLists.{ListView}
@@ -23,10 +24,7 @@ pub all_low : (n : ℕ) (s : ℕ → ℕ) → Lists n (may_topple s) [] → (i :
 all_low n s all i l = let low = leb-false 4 (s i) (none_passes n (may_topple s) all i l) in omega arith
 
 low_is_not_high : (a : ℕ) → ltb a 4 ≡ not (leb 4 a)
-low_is_not_high a = ⊎_elim
-    (λ (low : a < 4). rw (lt-ltb a 4 low, lt-leb 4 a low) refl)
-    (λ (high : 4 ≤ a). rw (le-ltb a 4 high, le-leb 4 a high) refl)
-    (cases_lt a 4)
+low_is_not_high a = grind (arith, nat_tests)
 
 -- a site that got grains joins the queue if it may topple from now on
 pub joins_one : (h : List ℕ) (l m : ListView) (i v : ℕ) → i < length h → get_or h i 0 ≤ v

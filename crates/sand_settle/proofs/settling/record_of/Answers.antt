@@ -1,16 +1,15 @@
-use Rattle.std.proofs.Common.{◌-◌, ◌∙◌, ap, arith, length, refl, subst, sum, sym}
-use Rattle.sand_model.specs.Grid.{Grid}
+use Rattle.std.proofs.Common.{◌-◌, ◌∙◌, ap, arith, refl, subst, sum, sym}
 use Rattle.sand_model.specs.Piles.{PileView, height_of}
 use Rattle.sand_model.proofs.Heights.{sum_is_grains}
 use Rattle.sand_settle.specs.Settling.{IsSettledRecord, SettledView}
 use Rattle.sand_settle.proofs.Drops.{grains_kept}
-use Rattle.sand_settle.proofs.Records.{Settles, settles, record_is}
+use Rattle.sand_settle.proofs.OneRecord.{same_parts, some_record}
+use Rattle.sand_settle.proofs.Records.{Settles, settles}
 use Rattle.sand_settle.proofs.settling.record_of.Goals.{After-grains-before, After-grains}
 use Rattle.sand_settle.proofs.settling.record_of.Goals as goal
 
 settling : (c : After-grains-before) → Settles c.args.pile.now c.args.rest.odometer.items c.args.rest.heights.items
-settling c = settles c.args.pile.now c.args.rest.odometer.items c.args.rest.heights.items
-    c.grains-before.ensures.pile c.requires.odometer_each c.requires.heights_each c.requires.settled
+settling c = settles c.grains-before.ensures.pile c.requires.odometer_each c.requires.heights_each c.requires.settled
 
 pub from_vec-settled-requires-clause-limit : goal.from_vec-settled-requires-clause-limit
 from_vec-settled-requires-clause-limit c =
@@ -23,35 +22,22 @@ overflow_sub-lost c =
     let heights = ap (λ (p : PileView). sum p.heights) c.from_vec-settled.ensures in
     omega (arith, all.left, c.grains-before.ensures.value, c.grains.ensures.value)
 
-made : (c : After-grains)
-    → IsSettledRecord c.args.pile.now.grid (height_of c.args.pile.now) (record {
-      pile = c.from_vec-settled.result;
-      odometer = c.args.rest.odometer.items;
-      topplings = sum c.args.rest.odometer.items;
-      lost = c.grains-before.result - c.grains.result;
-    })
+made : (c : After-grains) → IsSettledRecord c.args.pile.now.grid (height_of c.args.pile.now) (record {
+  pile = c.from_vec-settled.result;
+  odometer = c.args.rest.odometer.items;
+  topplings = sum c.args.rest.odometer.items;
+  lost = c.grains-before.result - c.grains.result;
+})
 made c =
     let heights = ap (λ (p : PileView). p.heights) c.from_vec-settled.ensures in
-    record_is c.args.pile.now (record {
-      pile = c.from_vec-settled.result;
-      odometer = c.args.rest.odometer.items;
-      topplings = sum c.args.rest.odometer.items;
-      lost = c.grains-before.result - c.grains.result;
-    })
-    c.grains-before.ensures.pile (ap (λ (p : PileView). p.grid) c.from_vec-settled.ensures ∙ c.shape.ensures.value)
-    (ap length heights ∙ c.requires.heights_each) c.requires.odometer_each (rw heights c.requires.settled)
-    refl (omega (arith, c.grains-before.ensures.value, c.grains.ensures.value))
+    let grid = ap (λ (p : PileView). p.grid) c.from_vec-settled.ensures ∙ c.shape.ensures.value in
+    let sums = ap sum heights in
+    subst (IsSettledRecord c.args.pile.now.grid (height_of c.args.pile.now))
+    (same_parts (sym grid) (sym heights) refl refl (omega (arith, c.grains-before.ensures.value, c.grains.ensures.value)))
+    (settles c.grains-before.ensures.pile c.requires.odometer_each c.requires.heights_each c.requires.settled).made
 
 pub of_parts-requires-clause-settled : goal.of_parts-requires-clause-settled
-of_parts-requires-clause-settled c =
-    let P : Grid → Type 0 = λ g. IsSettledRecord g (height_of c.args.pile.now) (record {
-      pile = c.from_vec-settled.result;
-      odometer = c.args.rest.odometer.items;
-      topplings = sum c.args.rest.odometer.items;
-      lost = c.grains-before.result - c.grains.result;
-    }) in
-    let here = made (goal.at.of_parts-requires-clause-settled c).After-grains in
-    (height_of c.args.pile.now, subst P (sym here.grid) here)
+of_parts-requires-clause-settled c = some_record (made (goal.at.of_parts-requires-clause-settled c).After-grains)
 
 pub of_parts-requires-clause-fits : goal.of_parts-requires-clause-fits
 of_parts-requires-clause-fits c =

@@ -1,7 +1,8 @@
-use Rattle.std.proofs.Common.{◌∙◌, ap, replicate, sym, subst}
+use Rattle.std.proofs.Common.{◌∙◌, ap, replicate}
 use Rattle.sand_model.specs.Grid.{sites}
-use Rattle.sand_model.specs.Piles.{PileView, height_of}
+use Rattle.sand_model.specs.Piles.{height_of}
 use Rattle.sand_settle.specs.Settling.{IsSettledRecord}
+use Rattle.sand_settle.proofs.OneRecord.{some_record}
 use Rattle.sand_settle.proofs.Records.{stable_record}
 use Rattle.sand_settle.proofs.settled.Settled.of_stable.Goals.{In_ok-odometer}
 use Rattle.sand_settle.proofs.settled.Settled.of_stable.Goals as goal
@@ -19,16 +20,7 @@ unchanged c =
     c.shape.ensures.pile.len zeros c.requires)
 
 pub invariant_of-result : goal.invariant_of-result
-invariant_of-result c =
-    let is = unchanged (goal.at.invariant_of-result c).In_ok-odometer in (
-      height_of c.args.pile.now,
-      subst (λ (p : PileView). IsSettledRecord p.grid (height_of c.args.pile.now) (record {
-        pile = c.in-Ok.settled;
-        odometer = c.in_ok-odometer.odometer.items;
-        topplings = 0;
-        lost = 0;
-      })) (sym c.in-Ok.ensures.made) is,
-    )
+invariant_of-result c = some_record (unchanged (goal.at.invariant_of-result c).In_ok-odometer)
 
 pub returns-clause-record : goal.returns-clause-record
 returns-clause-record c = unchanged (goal.at.returns-clause-record c).In_ok-odometer
