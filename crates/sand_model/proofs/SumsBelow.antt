@@ -24,6 +24,11 @@ unfolding sum_below
 sum_below-add zero f h = refl
 sum_below-add (suc n) f h = let below = sum_below-add n f h in omega arith
 
+-- k is f + h at each number
+pub sum_below_both : (n : ℕ) (f h k : ℕ → ℕ) → ((i : ℕ) → i < n → k i ≡ f i + h i)
+    → sum_below n k ≡ sum_below n f + sum_below n h
+sum_below_both n f h k e = sum_below_same n k (λ i. f i + h i) e ∙ sum_below-add n f h
+
 pub sum_below-scale : (n c : ℕ) (f : ℕ → ℕ) → sum_below n (λ i. c * f i) ≡ c * sum_below n f
 unfolding sum_below
 sum_below-scale zero c f = omega arith

@@ -1,5 +1,5 @@
 -- A pile driven by fronts, before and after a drop.
-use Rattle.std.proofs.Common.{ℕ, List, [], ◌≡◌, ◌+◌, ◌^◌, ◌<◌, ◌≤◌, refl, sym, ◌∙◌, ap, subst, arith, sum}
+use Rattle.std.proofs.Common.{ℕ, [], ◌≡◌, ◌+◌, ◌^◌, ◌<◌, ◌≤◌, refl, sym, ◌∙◌, ap, subst, arith, sum}
 use Rattle.std.specs.Prelude.{slice_index}
 use Rattle.std.proofs.lemmas.List.{ext_get_or}
 use Rattle.sand_model.specs.Grid.{sites}
@@ -14,14 +14,8 @@ use Rattle.sand_settle.specs.Avalanches.{Avalanche, IsAvalanche}
 use Rattle.sand_settle.specs.Settling.{SettledView, IsSettledRecord, IsSomeSettledRecord, odometer_of}
 use Rattle.sand_settle.specs.Drops.{IsAfter, IsPaid, TakesGrain, one_view, topplings_between}
 use Rattle.sand_settle.specs.Driven.{driven_record, IsDriven}
+use Rattle.sand_settle.proofs.OneRecord.{same_parts, some_record}
 use Rattle.sand_settle.proofs.Drops.{after_start, paid_start, paid_after, grains_after, some_record_after}
-
-pub record_read : (r : SettledView) (t : TiledView) (all gone : ℕ) (pile : PileView) (counts : List ℕ)
-    → pile.grid ≡ r.pile.grid → pile.heights ≡ t.heights
-    → counts ≡ by_site r.pile.grid (λ j. slice_index r.odometer j + slice_index t.times j)
-    → record { pile = pile; odometer = counts; topplings = all; lost = gone } ≡ driven_record r t all gone
-record_read r t all gone pile counts grid heights same = λ i.
-    record { pile = record { grid = grid i; heights = heights i }; odometer = same i; topplings = all; lost = gone }
 
 -- ---- before a drop
 
@@ -49,8 +43,7 @@ start_record {start} {r} {t} {all} {gone} at =
     (λ j l. sym (at.heights j (omega (arith, done.heights_each)))) in
     let counts = ext_get_or 0 r.odometer (by_site g times) (omega (arith, done.odometer_each, by_site_long g times))
     (λ j l. omega (arith, at.none j, by_site_at g times j (omega (arith, done.odometer_each)))) in
-    (λ i. record r { topplings = sym at.all_topplings i; lost = sym at.all_lost i })
-    ∙ record_read r t all gone r.pile r.odometer refl heights counts
+    same_parts refl heights counts (sym at.all_topplings) (sym at.all_lost)
 
 pub driven_start : {start : PileView} {r : SettledView} {t : TiledView} {all gone grains : ℕ}
     → IsAtStart start r t all gone → grains ≡ sum r.pile.heights + gone
@@ -61,8 +54,7 @@ driven_start {start} {r} at whole =
     record {
       one_grid = at.one_grid;
       paid = subst IsPaid same (paid_start at.pile done);
-      settled = subst IsSomeSettledRecord same
-          (height_of start, subst (λ g. IsSettledRecord g (height_of start) r) (sym done.grid) done);
+      settled = subst IsSomeSettledRecord same (some_record done);
       all_grains = omega (arith, whole, ap (λ (q : SettledView). sum q.pile.heights) same);
       bound = omega arith;
     }

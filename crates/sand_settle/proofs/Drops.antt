@@ -3,9 +3,9 @@ use Rattle.std.proofs.Common.{ℕ, ◌≡◌, ◌+◌, ◌-◌, ◌*◌, ◌<◌
 use Rattle.std.proofs.lemmas.List.{length-append, append-nil}
 use Rattle.std.proofs.lemmas.List.Elements.{All-push}
 use Rattle.sand_model.specs.Grid.{Grid, sites, missing}
-use Rattle.sand_model.specs.Sand.{occurrences, one_at, IsSettled, grains, topplings, lost, weight, grain_weight}
+use Rattle.sand_model.specs.Sand.{occurrences, one_at, IsSettled, grains, topplings, grain_weight}
 use Rattle.sand_model.specs.Piles.{PileView, IsPile, height_of, most_grains}
-use Rattle.sand_model.proofs.SumsBelow.{sum_below-add, sum_below_same}
+use Rattle.sand_model.proofs.SumsBelow.{sum_below-add, sum_below_both, sum_below_same}
 use Rattle.sand_model.proofs.Occurrences.{occurrences-push}
 use Rattle.sand_model.proofs.Sandpile.{laplacian_sum, weight_after, settled_in_parts, settled_same, settled_stable}
 use Rattle.sand_model.proofs.Heights.{sum_is_grains}
@@ -14,24 +14,19 @@ use Rattle.sand_fronts.specs.TiledPiles.{TiledView}
 use Rattle.sand_settle.specs.Settling.{SettledView, IsSettledRecord, IsSomeSettledRecord, odometer_of}
 use Rattle.sand_settle.specs.Drops.{OneView, IsAfter, topplings_between, TakesGrain, Drops, DropsAll, IsPaid, one_view, IsOnTiles, IsOnePile}
 use Rattle.sand_settle.specs.Avalanches.{Avalanche, IsAvalanche}
-use Rattle.sand_settle.proofs.OneRecord.{record_by_site}
+use Rattle.sand_settle.proofs.OneRecord.{record_by_site, some_record}
 use Rattle.sand_settle.proofs.Underway.{topplings_at}
 pub use Rattle.sand_fronts.proofs.OnPiles.{avalanche_same}
-
-lost_sum : (g : Grid) (u v w : ℕ → ℕ) → ((j : ℕ) → j < sites g → w j ≡ u j + v j) → lost g w ≡ lost g u + lost g v
-lost_sum g u v w e =
-    sum_below_same (sites g) (λ j. missing g j * w j) (λ j. missing g j * u j + missing g j * v j)
-    (λ j l. let k = ap (λ m. missing g j * m) (e j l) in omega arith)
-    ∙ sum_below-add (sites g) (λ j. missing g j * u j) (λ j. missing g j * v j)
 
 -- the grains on a settled pile and those lost are the grains of its start
 pub grains_kept : {g : Grid} {s : ℕ → ℕ} {r : SettledView} → IsSettledRecord g s r
     → sum r.pile.heights + r.lost ≡ grains g s
-grains_kept {g} {s} {r} done =
-    let all = laplacian_sum g s (odometer_of r) (height_of r.pile) done.settled.toppled in
-    let after = sum_is_grains g r.pile.heights done.heights_each in
-    let gone = done.all_lost in
-    omega arith
+grains_kept {g} {s} {r} done = omega (
+  arith,
+  laplacian_sum g s (odometer_of r) (height_of r.pile) done.settled.toppled,
+  sum_is_grains g r.pile.heights done.heights_each,
+  done.all_lost,
+)
 
 -- ---- the record of a start
 
@@ -72,12 +67,6 @@ one_grain : (g : Grid) (site : ℕ) → site < sites g → grains g (one_at site
 one_grain g site l =
     sum_below_same (sites g) (one_at site) (λ j. 1 * one_at site j) (λ j m. omega arith) ∙ topplings_at g site 1 l
 
-weight-add : (g : Grid) (a b : ℕ → ℕ) → weight g (λ j. a j + b j) ≡ weight g a + weight g b
-weight-add g a b =
-    sum_below_same (sites g) (λ i. (a i + b i) * grain_weight g i)
-    (λ i. a i * grain_weight g i + b i * grain_weight g i) (λ i l. omega arith)
-    ∙ sum_below-add (sites g) (λ i. a i * grain_weight g i) (λ i. b i * grain_weight g i)
-
 pub grains_after : {r q : SettledView} {site : ℕ} → IsPaid r → site < sites r.pile.grid → TakesGrain r site q
     → sum q.pile.heights + q.lost ≡ sum r.pile.heights + r.lost + 1
 grains_after {r} {q} {site} paid inside taken =
@@ -93,9 +82,8 @@ grains_after {r} {q} {site} paid inside taken =
 topplings_after : {r q : SettledView} {site : ℕ} → r.topplings ≡ topplings r.pile.grid (odometer_of r)
     → TakesGrain r site q → q.topplings ≡ topplings r.pile.grid (odometer_of q)
 topplings_after {r} {q} before taken =
-    let same = sum_below_same (sites r.pile.grid) (odometer_of q) (λ j. odometer_of r j + topplings_between r q j)
+    let both = sum_below_both (sites r.pile.grid) (odometer_of r) (topplings_between r q) (odometer_of q)
     (λ j l. omega (arith, taken.never_falls j)) in
-    let both = sum_below-add (sites r.pile.grid) (odometer_of r) (topplings_between r q) in
     omega (arith, taken.more_topplings)
 
 pub paid_after : {r q : SettledView} {site : ℕ} → IsPaid r → site < sites r.pile.grid
@@ -113,7 +101,8 @@ paid_after {r} {q} {site} paid inside room taken =
       all_topplings = rw taken.grid (topplings_after paid.all_topplings taken);
       paid =
           let falls = weight_after g s (topplings_between r q) (height_of q.pile) taken.settled.toppled in
-          let both = weight-add g (height_of r.pile) (one_at site) in
+          let both = sum_below_both (sites g) (λ i. height_of r.pile i * grain_weight g i)
+          (λ i. one_at site i * grain_weight g i) (λ i. s i * grain_weight g i) (λ i l. omega arith) in
           let one = weight_bound g (one_at site) paid.sides in
           let grain = one_grain g site inside in
           rw taken.grid (omega (arith, taken.more_topplings, paid.paid));
@@ -122,43 +111,37 @@ paid_after {r} {q} {site} paid inside room taken =
 -- ---- from a start and its drops to one more drop
 
 -- a grain dropped on the settled pile of some heights leads to the record of these heights and the grain
-record_of_more : (s : ℕ → ℕ) {site : ℕ} {r q : SettledView} → IsSettledRecord r.pile.grid s r → TakesGrain r site q
+more_here : (s : ℕ → ℕ) {site : ℕ} {r q : SettledView} → IsSettledRecord r.pile.grid s r → TakesGrain r site q
     → IsSettledRecord r.pile.grid (λ j. s j + one_at site j) q
-record_of_more s {site} {r} {q} before taken =
+more_here s {site} {r} {q} before taken =
     let g = r.pile.grid in
     let more : ℕ → ℕ = λ j. s j + one_at site j in
-    let sum_of : ℕ → ℕ = λ j. odometer_of r j + topplings_between r q j in
-    let counts : (j : ℕ) → odometer_of q j ≡ sum_of j = λ j. omega (arith, taken.never_falls j) in
+    let new = topplings_between r q in
+    let counts : (j : ℕ) → odometer_of q j ≡ odometer_of r j + new j = λ j. omega (arith, taken.never_falls j) in
     record {
       grid = taken.grid;
       heights_each = taken.heights_each;
       odometer_each = taken.odometer_each;
-      settled = settled_same g more more sum_of (odometer_of q) (height_of q.pile) (height_of q.pile)
-          (λ i l. refl) (λ i l. sym (counts i)) (λ i l. refl)
-          (settled_in_parts g s (one_at site) (odometer_of r) (height_of r.pile)
-          (topplings_between r q) (height_of q.pile) before.settled taken.settled);
+      settled = settled_same g more more (λ j. odometer_of r j + new j) (odometer_of q) (height_of q.pile)
+          (height_of q.pile) (λ i l. refl) (λ i l. sym (counts i)) (λ i l. refl)
+          (settled_in_parts g s (one_at site) (odometer_of r) (height_of r.pile) new (height_of q.pile)
+          before.settled taken.settled);
       all_topplings = topplings_after before.all_topplings taken;
       all_lost =
-          let both = lost_sum g (odometer_of r) (topplings_between r q) (odometer_of q) (λ j l. counts j) in
+          let both = sum_below_both (sites g) (λ j. missing g j * odometer_of r j) (λ j. missing g j * new j)
+          (λ j. missing g j * odometer_of q j) (λ j l. ap (λ n. missing g j * n) (counts j) ∙ omega arith) in
           omega (arith, before.all_lost, taken.more_lost);
     }
 
+record_of_more : {g : Grid} (s : ℕ → ℕ) {site : ℕ} {r q : SettledView} → IsSettledRecord g s r → TakesGrain r site q
+    → IsSettledRecord g (λ j. s j + one_at site j) q
+record_of_more s {site} {r} {q} before taken =
+    subst (λ h. IsSettledRecord h s r → IsSettledRecord h (λ j. s j + one_at site j) q) before.grid
+    (λ here. more_here s here taken) before
+
 pub some_record_after : {r q : SettledView} {site : ℕ} → IsSomeSettledRecord r → TakesGrain r site q
     → IsSomeSettledRecord q
-some_record_after {r} {q} {site} (s, before) taken =
-    let P : Grid → Type 0 = λ g. IsSettledRecord g (λ j. s j + one_at site j) q in
-    (λ j. s j + one_at site j, subst P (sym taken.grid) (record_of_more s before taken))
-
--- from the record of the start and the grains so far to the record with one more grain
-record_after : (g : Grid) (s : ℕ → ℕ) (history : List ℕ) (site : ℕ) (r q : SettledView)
-    → IsSettledRecord g (λ j. s j + occurrences history j) r → TakesGrain r site q
-    → IsSettledRecord g (λ j. s j + occurrences (history ++ site ∷ []) j) q
-record_after g s history site r q before taken =
-    let t : ℕ → ℕ = λ j. s j + occurrences history j in
-    let P : Grid → Type 0 = λ h. IsSettledRecord h t r → IsSettledRecord h (λ j. t j + one_at site j) q in
-    record_by_site g (λ j. t j + one_at site j) (λ j. s j + occurrences (history ++ site ∷ []) j) q
-    (λ i l. omega (arith, occurrences-push history site i))
-    (subst P before.grid (λ done. record_of_more t done taken) before)
+some_record_after (s, before) taken = some_record (record_of_more s before taken)
 
 pub after_drop : (start : PileView) (history : List ℕ) (site : ℕ) (v w : OneView)
     → Drops v site w → IsAfter start history v
@@ -166,12 +149,14 @@ pub after_drop : (start : PileView) (history : List ℕ) (site : ℕ) (v w : One
 after_drop start history site v w drop after =
     let longer = length-append history (site ∷ []) in
     let sites_are = ap sites after.settled.grid in
+    let before : ℕ → ℕ = λ j. height_of start j + occurrences history j in
     record {
       start_pile = after.start_pile;
       all_sites = All-push (λ j. j < sites start.grid) history site after.all_sites (omega (arith, drop.inside));
       limit = omega (arith, drop.room, after.grains);
-      settled = record_after start.grid (height_of start)
-          history site v.settled w.settled after.settled drop.settled;
+      settled = record_by_site start.grid (λ j. before j + one_at site j)
+          (λ j. height_of start j + occurrences (history ++ site ∷ []) j) w.settled
+          (λ j l. omega (arith, occurrences-push history site j)) (record_of_more before after.settled drop.settled);
       number = omega (arith, drop.number, after.number);
       grains = omega (arith, drop.grains, after.grains);
     }
@@ -205,7 +190,7 @@ pub record Pours (r : SettledView) (site : ℕ) (k new : List ℕ) (a : Avalanch
   pub paid : IsPaid (poured r k new a)
   pub grains : sum k + a.lost ≡ sum r.pile.heights + 1
 
-pub pours : (r : SettledView) (site : ℕ) (g : Grid) (h k old new : List ℕ) (a : Avalanche)
+pub pours : {r : SettledView} {site : ℕ} {g : Grid} {h k old new : List ℕ} {a : Avalanche}
     → IsPaid r → site < sites r.pile.grid
     → sum r.pile.heights + r.lost < most_grains → g ≡ r.pile.grid → h ≡ r.pile.heights
     → old ≡ r.odometer → length k ≡ length h → length new ≡ length old
@@ -213,7 +198,7 @@ pub pours : (r : SettledView) (site : ℕ) (g : Grid) (h k old new : List ℕ) (
     → IsSettled g (λ j. get_or h j 0 + one_at site j) (λ j. get_or new j 0 - get_or old j 0) (λ j. get_or k j 0)
     → IsAvalanche g site (λ j. get_or new j 0 - get_or old j 0) a
     → Pours r site k new a
-pours r site g h k old new a paid inside room grid list same heights counts rises done set_off =
+pours {r} {site} {g} {h} {k} {old} {new} {a} paid inside room grid list same heights counts rises done set_off =
     let fall : IsAvalanche r.pile.grid site (topplings_between r (poured r k new a)) a = rw (grid, same) at set_off in
     let taken : TakesGrain r site (poured r k new a) = record {
       grid = refl;
@@ -230,16 +215,6 @@ pours r site g h k old new a paid inside room grid list same heights counts rise
       paid = paid_after paid inside room taken;
       grains = omega (arith, grains_after paid inside taken);
     }
-
-pub poured_is : (r : SettledView) (a : Avalanche) {q : SettledView} {k new : List ℕ}
-    → q.pile.grid ≡ r.pile.grid → q.pile.heights ≡ k
-    → q.odometer ≡ new → q.topplings ≡ r.topplings + a.size → q.lost ≡ r.lost + a.lost → poured r k new a ≡ q
-poured_is r a grid heights counts more gone = sym (λ i. record {
-  pile = record { grid = grid i; heights = heights i };
-  odometer = counts i;
-  topplings = more i;
-  lost = gone i;
-})
 
 -- no site has toppled often
 pub few_so_far : {r : SettledView} (u : List ℕ) → IsPaid r → u ≡ r.odometer → (j : ℕ) → j < sites r.pile.grid

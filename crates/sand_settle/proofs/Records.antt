@@ -10,7 +10,7 @@ use Rattle.sand_model.proofs.Heights.{sum_is_grains, sum_left}
 use Rattle.sand_model.proofs.Bounds.{topplings_bound}
 use Rattle.sand_model.proofs.SumsBelow.{sum_below_same, sum_below-zero}
 use Rattle.sand_model.proofs.Underway.{underway_start, underway_end}
-use Rattle.sand_settle.specs.Settling.{SettledView, IsSettledRecord, odometer_of}
+use Rattle.sand_settle.specs.Settling.{SettledView, IsSettledRecord}
 use Rattle.sand_settle.proofs.OneRecord.{same_parts}
 use Rattle.sand_settle.proofs.Underway.{zero_at}
 

@@ -1,10 +1,12 @@
-use Rattle.std.proofs.Common.{◌≡◌, ◌∙◌, ◌+◌, List, ℕ, ap, arith, drop, length, slice_index, subst, sym}
+use Rattle.std.proofs.Common.{◌≡◌, ◌∙◌, ◌+◌, List, ℕ, ap, arith, drop, length, slice_index, subst, sym, refl}
 use Rattle.std.proofs.lemmas.List.{take_at}
 use Rattle.sand_model.specs.Grid.{Grid}
 use Rattle.sand_model.specs.Piles.{PileView}
 use Rattle.sand_fronts.specs.TiledPiles.{by_site}
 use Rattle.sand_settle.specs.Settling.{SettledView, IsSomeSettledRecord}
-use Rattle.sand_settle.proofs.Driven.{few_counts, record_read}
+use Rattle.sand_settle.specs.Driven.{driven_record}
+use Rattle.sand_settle.proofs.OneRecord.{same_parts}
+use Rattle.sand_settle.proofs.Driven.{few_counts}
 use Rattle.sand_settle.proofs.driven_pile.DrivenPile.finish.Goals as goal
 
 pub add_times-requires-clause-bound : goal.add_times-requires-clause-bound
@@ -24,8 +26,8 @@ invariant_of-result c =
     c.start.inside.odometer.len (omega (arith, c.add_times.auto.odometer, c.deref_mut-2.ensures.len)) in
     let counts : c.deref_mut-2.result.now ≡ c.self.inside.start.odometer =
     c.deref_mut-2.ensures.value ∙ ap (λ (r : SettledView). r.odometer) c.start.view_is in
-    let all = record_read c.self.inside.start c.self.inside.fronts
-    c.self.inside.topplings c.self.inside.lost c.from_counted.result _
+    let all = same_parts {q = driven_record c.self.inside.start c.self.inside.fronts
+    c.self.inside.topplings c.self.inside.lost}
     (ap (λ (p : PileView). p.grid) c.from_counted.ensures ∙ c.into_parts-shape.ensures.shape
     ∙ ap (λ (r : SettledView). r.pile.grid) c.start.view_is)
     (ap (λ (p : PileView). p.heights) c.from_counted.ensures ∙ heights ∙ c.read_heights.ensures)
@@ -33,5 +35,5 @@ invariant_of-result c =
     by_site c.self.inside.fronts.grid (λ j. slice_index xs j + slice_index c.self.inside.fronts.times j)) counts
     ∙ ap (λ (g : Grid).
     by_site g (λ j. slice_index c.self.inside.start.odometer j + slice_index c.self.inside.fronts.times j))
-    c.self.invariant.one_grid) in
+    c.self.invariant.one_grid) refl refl in
     subst IsSomeSettledRecord (sym all) c.self.invariant.settled
