@@ -76,63 +76,51 @@ few_counts {r} {t} {all = all} {gone = gone} driven j l =
     at_most_sum_below (sites r.pile.grid) (odometer_of (driven_record r t all gone)) j (omega arith) in
     omega (arith, driven.paid.all_topplings, driven.paid.paid, driven.paid.limit)
 
--- the topplings on the tiles are those of the record
-between : (r : SettledView) (t u : TiledView) (all gone more lost : ℕ) (j : ℕ) → j < sites r.pile.grid
-    → toppled_between t u j ≡ topplings_between (driven_record r t all gone) (driven_record r u more lost) j
-between r t u all gone more lost j l = omega (
-  arith,
-  by_site_at r.pile.grid (λ i. slice_index r.odometer i + slice_index t.times i) j l,
-  by_site_at r.pile.grid (λ i. slice_index r.odometer i + slice_index u.times i) j l,
-)
+-- a grain dropped at the site has set off the avalanche f on the tiles t, which are u after it
+pub record DropsOn (r : SettledView) (t u : TiledView) (site : ℕ) (f : Avalanche) (number all gone grains : ℕ)
+    : Type 0 where
+  pub avalanche : IsAvalanche r.pile.grid site
+      (topplings_between (driven_record r t all gone) (driven_record r u (all + f.size) (gone + f.lost))) f
+  pub taken : TakesGrain (driven_record r t all gone) site (driven_record r u (all + f.size) (gone + f.lost))
+  pub driven : IsDriven r u (number + 1) (all + f.size) (gone + f.lost) (grains + 1)
 
-pub driven_avalanche : {r : SettledView} {t : TiledView} (u : TiledView) {site : ℕ}
-    {f : Avalanche} {number all gone grains : ℕ}
-    → IsDriven r t number all gone grains
-    → IsAvalanche t.grid site (toppled_between t u) f
-    → IsAvalanche r.pile.grid site
-    (topplings_between (driven_record r t all gone) (driven_record r u (all + f.size) (gone + f.lost))) f
-driven_avalanche {r} {t} u {site} {f} {all = all} {gone = gone} driven fall =
-    avalanche_same r.pile.grid site (toppled_between t u)
-    (topplings_between (driven_record r t all gone) (driven_record r u (all + f.size) (gone + f.lost))) f
-    (between r t u all gone (all + f.size) (gone + f.lost))
-    (subst (λ h. IsAvalanche h site (toppled_between t u) f) driven.one_grid fall)
-
--- a drop on the tiles is a drop on the record
-pub driven_takes : {r : SettledView} {t u : TiledView} {site : ℕ} {f : Avalanche} {number all gone grains : ℕ}
-    → IsDriven r t number all gone grains → u.grid ≡ t.grid → IsTiledView u
-    → ((j : ℕ) → slice_index t.times j ≤ slice_index u.times j)
+pub drops_on : {r : SettledView} {t u : TiledView} {site : ℕ} {f : Avalanche} {number all gone grains : ℕ}
+    → IsDriven r t number all gone grains → site < sites r.pile.grid → grains < most_grains
+    → u.grid ≡ t.grid → IsTiledView u → ((j : ℕ) → slice_index t.times j ≤ slice_index u.times j)
     → IsSettled t.grid (λ j. slice_index t.heights j + one_at site j) (toppled_between t u) (slice_index u.heights)
     → IsAvalanche t.grid site (toppled_between t u) f
-    → TakesGrain (driven_record r t all gone) site (driven_record r u (all + f.size) (gone + f.lost))
-driven_takes {r} {t} {u} {site} {f} {all = all} {gone = gone} driven grid by_site rises settled fall =
+    → DropsOn r t u site f number all gone grains
+drops_on {r} {t} {u} {site} {f} {all = all} {gone = gone} driven inside room grid by_site rises settled fall =
     let g = r.pile.grid in
     let s : ℕ → ℕ = λ j. slice_index t.heights j + one_at site j in
-    let before : ℕ → ℕ = λ i. slice_index r.odometer i + slice_index t.times i in
-    let after : ℕ → ℕ = λ i. slice_index r.odometer i + slice_index u.times i in
+    let before : ℕ → ℕ = λ j. slice_index r.odometer j + slice_index t.times j in
+    let after : ℕ → ℕ = λ j. slice_index r.odometer j + slice_index u.times j in
     let p = driven_record r t all gone in
     let q = driven_record r u (all + f.size) (gone + f.lost) in
-    let fell = driven_avalanche u driven fall in
-    record {
+    let between : (j : ℕ) → j < sites g → toppled_between t u j ≡ topplings_between p q j =
+    λ j l. omega (arith, by_site_at g before j l, by_site_at g after j l) in
+    let fell : IsAvalanche g site (topplings_between p q) f =
+    avalanche_same g site (toppled_between t u) (topplings_between p q) f between
+    (subst (λ h. IsAvalanche h site (toppled_between t u) f) driven.one_grid fall) in
+    let taken : TakesGrain p site q = record {
       grid = refl;
       heights_each = by_site.heights_each ∙ ap sites grid ∙ ap sites driven.one_grid;
       odometer_each = by_site_long g after;
       never_falls = λ j. by_site_le g before after j (λ l. omega (arith, rises j));
       settled = settled_same g s s (toppled_between t u) (topplings_between p q) (slice_index u.heights)
-          (slice_index u.heights) (λ j l. refl) (between r t u all gone (all + f.size) (gone + f.lost)) (λ j l. refl)
+          (slice_index u.heights) (λ j l. refl) between (λ j l. refl)
           (subst (λ h. IsSettled h s (toppled_between t u) (slice_index u.heights)) driven.one_grid settled);
       more_topplings = ap (λ m. all + m) fell.size;
       more_lost = ap (λ m. gone + m) fell.all_lost;
+    } in
+    record {
+      avalanche = fell;
+      taken = taken;
+      driven = record {
+        one_grid = grid ∙ driven.one_grid;
+        paid = paid_after driven.paid inside (omega (arith, room, driven.all_grains)) taken;
+        settled = some_record_after driven.settled taken;
+        all_grains = omega (arith, driven.all_grains, grains_after driven.paid inside taken);
+        bound = omega (arith, driven.bound);
+      };
     }
-
-pub driven_after : {r : SettledView} {t u : TiledView} {site number all gone grains more lost : ℕ}
-    → IsDriven r t number all gone grains → u.grid ≡ t.grid
-    → site < sites r.pile.grid → grains < most_grains
-    → TakesGrain (driven_record r t all gone) site (driven_record r u more lost)
-    → IsDriven r u (number + 1) more lost (grains + 1)
-driven_after driven grid inside room taken = record {
-  one_grid = grid ∙ driven.one_grid;
-  paid = paid_after driven.paid inside (omega (arith, room, driven.all_grains)) taken;
-  settled = some_record_after driven.settled taken;
-  all_grains = omega (arith, driven.all_grains, grains_after driven.paid inside taken);
-  bound = omega (arith, driven.bound);
-}

@@ -8,7 +8,7 @@ use Rattle.sand_model.specs.Piles.{PileView, IsPile, height_of}
 use Rattle.sand_model.proofs.Sandpile.{weight_after}
 use Rattle.sand_model.proofs.Heights.{sum_is_grains, sum_left}
 use Rattle.sand_model.proofs.Bounds.{topplings_bound}
-use Rattle.sand_model.proofs.SumsBelow.{sum_below_same, sum_below-zero}
+use Rattle.sand_fronts.proofs.Sums.{sum_below_none}
 use Rattle.sand_model.proofs.Underway.{underway_start, underway_end}
 use Rattle.sand_settle.specs.Settling.{SettledView, IsSettledRecord}
 use Rattle.sand_settle.proofs.OneRecord.{same_parts}
@@ -70,10 +70,9 @@ stable_record g h u each zeros stable =
       heights_each = each;
       odometer_each = ap length zeros ∙ length-replicate {A = ℕ} (sites g) 0;
       settled = underway_end g _ _ _ (underway_start g _ _ (λ j l. none j)) stable.low;
-      all_topplings =
-          sym (sum_below_same (sites g) (λ j. get_or u j 0) (λ j. 0) (λ j l. none j) ∙ sum_below-zero (sites g));
-      all_lost = sym (sum_below_same (sites g) (λ j. missing g j * get_or u j 0) (λ j. 0)
-          (λ j l. let e = ap (λ n. missing g j * n) (none j) in omega arith) ∙ sum_below-zero (sites g));
+      all_topplings = sym (sum_below_none (sites g) (slice_index u) (λ j l. none j));
+      all_lost = sym (sum_below_none (sites g) (λ j. missing g j * slice_index u j)
+          (λ j l. ap (λ n. missing g j * n) (none j) ∙ omega arith));
     }
 
 -- a record that is written down in its parts

@@ -4,11 +4,12 @@ use Rattle.std.proofs.lemmas.Bool.{cases_lt}
 use Rattle.std.proofs.lemmas.List.{get_or-replicate, get_or_past, length-replicate}
 use Rattle.sand_model.specs.Grid.{Grid, IsGrid, sites}
 use Rattle.sand_model.specs.Sand.{one_at, IsToppled, topplings, weight}
-use Rattle.sand_model.proofs.SumsBelow.{sum_below_same, sum_below-add, sum_below-zero, sum_below-one_at}
+use Rattle.sand_model.proofs.SumsBelow.{sum_below_both, sum_below-one_at}
 use Rattle.sand_model.proofs.Sandpile.{weight_after, laplacian_sum}
 use Rattle.sand_model.proofs.Heights.{sum_is_grains}
 use Rattle.sand_model.proofs.Bounds.{weight_bound}
 use Rattle.sand_model.proofs.Underway.{underway_step}
+use Rattle.sand_fronts.proofs.Sums.{sum_below_none}
 use Rattle.sand_model.specs.Underway.{Advances}
 use Rattle.sand_model.specs.Piles.{most_grains}
 
@@ -17,39 +18,32 @@ topplings_at g i k l = sum_below-one_at (sites g) i (λ j. k) l
 
 -- ---- from one moment to a later one
 
-pub advance_more : (g : Grid) (u t v r w q : ℕ → ℕ) → Advances g u t v r → Advances g v r w q → Advances g u t w q
-advance_more g u t v r w q first second = record {
+pub advance_more : {g : Grid} {u t v r w q : ℕ → ℕ} → Advances g u t v r → Advances g v r w q → Advances g u t w q
+advance_more first second = record {
   underway = λ s before. second.underway s (first.underway s before);
   weight_pays = omega (arith, first.weight_pays, second.weight_pays);
   grains_fall = omega (arith, first.grains_fall, second.grains_fall);
 }
 
-pub topplings_more : (g : Grid) (v w : ℕ → ℕ) (i k : ℕ) → i < sites g
-    → ((j : ℕ) → j < sites g → w j ≡ v j + k * one_at i j)
-    → topplings g w ≡ topplings g v + k
-topplings_more g v w i k l counts =
-    let same = sum_below_same (sites g) w (λ j. v j + k * one_at i j) counts in
-    let both = sum_below-add (sites g) v (λ j. k * one_at i j) in
-    let here = topplings_at g i k l in
-    omega arith
-
+-- one site topples k times
 pub advance_turn : (g : Grid) (v r w q : ℕ → ℕ) (i k : ℕ) → i < sites g
     → 4 * k ≤ r i → ((j : ℕ) → j < sites g → w j ≡ v j + k * one_at i j)
-    → IsToppled g r (λ j. k * one_at i j) q → Advances g v r w q
-advance_turn g v r w q i k l high counts done = record {
-  underway = λ s before. underway_step g s v r w q i k l high before counts done;
-  weight_pays =
-      let count = topplings_more g v w i k l counts in
-      let falls = weight_after g r (λ j. k * one_at i j) q done in
-      let all = topplings_at g i k l in
-      omega arith;
-  grains_fall = let all = laplacian_sum g r (λ j. k * one_at i j) q done in omega arith;
-}
+    → IsToppled g r (λ j. k * one_at i j) q → Advances g v r w q × (topplings g w ≡ topplings g v + k)
+advance_turn g v r w q i k l high counts done =
+    let here = topplings_at g i k l in
+    let both = sum_below_both (sites g) v (λ j. k * one_at i j) w counts in (
+      record {
+        underway = λ s before. underway_step g s v r w q i k l high before counts done;
+        weight_pays = omega (arith, weight_after g r (λ j. k * one_at i j) q done);
+        grains_fall = omega (arith, laplacian_sum g r (λ j. k * one_at i j) q done);
+      },
+      omega arith,
+    )
 
-pub sum_falls : (g : Grid) (u v : ℕ → ℕ) (h k : List ℕ) → length h ≡ sites g
+pub sum_falls : {g : Grid} {u v : ℕ → ℕ} (h k : List ℕ) → length h ≡ sites g
     → length k ≡ sites g → Advances g u (λ j. get_or h j 0) v (λ j. get_or k j 0)
     → sum k ≤ sum h
-sum_falls g u v h k lh lk advances =
+sum_falls {g} h k lh lk advances =
     omega (arith, sum_is_grains g h lh, sum_is_grains g k lk, advances.grains_fall)
 
 -- a list of zeros is 0 everywhere
@@ -65,8 +59,5 @@ pub few_at_first : (g : Grid) (u : ℕ → ℕ) (h : List ℕ) → IsGrid g
     → length h ≡ sites g → sum h ≤ most_grains → ((i : ℕ) → u i ≡ 0)
     → 2 * topplings g u + weight g (λ j. get_or h j 0) < 2 ^ 55
 few_at_first g u h sides each limit none =
-    let heavy = weight_bound g (λ j. get_or h j 0) sides in
-    let grains_are = sum_is_grains g h each in
-    let zeros = sum_below_same (sites g) u (λ j. 0) (λ j l. none j) in
-    let nothing = sum_below-zero (sites g) in
-    omega arith
+    let zeros = sum_below_none (sites g) u (λ j l. none j) in
+    omega (arith, weight_bound g (λ j. get_or h j 0) sides, sum_is_grains g h each)

@@ -30,24 +30,23 @@ generations-init c = record {
 }
 
 pub topple_generation-requires-clause-limit : goal.topple_generation-requires-clause-limit
-topple_generation-requires-clause-limit c =
-    let falls = sum_falls c.args.lattice.now _ _ c.args.heights.now c.generations.heights
-    c.requires.heights_each c.generations.invariant.heights_each c.generations.invariant.advances in
-    omega (arith, c.requires.limit)
+topple_generation-requires-clause-limit c = omega (
+  arith,
+  sum_falls _ _ c.requires.heights_each c.generations.invariant.heights_each c.generations.invariant.advances,
+  c.requires.limit,
+)
 
 pub topple_generation-requires-clause-bound : goal.topple_generation-requires-clause-bound
 topple_generation-requires-clause-bound c =
     let first = pays (goal.at.topple_generation-requires-clause-bound c).After-fill in
-    let later = c.generations.invariant.advances.weight_pays in
-    omega arith
+    omega (arith, c.generations.invariant.advances.weight_pays)
 
 pub generations-preserved : goal.generations-preserved
 generations-preserved c = record {
   heights_each = omega (arith, c.generations.invariant.heights_each, c.topple_generation.auto.heights);
   counts_each = omega (arith, c.generations.invariant.counts_each, c.topple_generation.auto.counts);
   spent = omega (arith, c.generations.invariant.spent, c.topple_generation.ensures.each_topples);
-  advances =
-      advance_more c.args.lattice.now _ _ _ _ _ _ c.generations.invariant.advances c.topple_generation.ensures.advances;
+  advances = advance_more c.generations.invariant.advances c.topple_generation.ensures.advances;
   waiting = rw (ap (λ (l : ListView). l.items) c.swap.ensures.x_after) c.topple_generation.ensures.waiting;
   generation_room = omega (
     arith,
@@ -73,4 +72,4 @@ pub returns-then-left-eq0-clause-ends : goal.returns-then-left-eq0-clause-ends
 returns-then-left-eq0-clause-ends c many =
     let first = pays (goal.at.returns-then-left-eq0-clause-ends c).After-fill in
     let later = c.generations.invariant.advances.weight_pays in
-    absurd (omega (arith, many, c.generations.invariant.spent, c.if-left-eq0.true))
+    absurd (omega (arith, c.generations.invariant.spent, c.if-left-eq0.true))

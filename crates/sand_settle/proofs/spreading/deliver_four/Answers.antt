@@ -3,19 +3,6 @@ use Rattle.sand_model.proofs.Flow.{four_places}
 use Rattle.sand_model.proofs.IndexLists.{joins_more}
 use Rattle.sand_settle.proofs.spreading.deliver_four.Goals as goal
 
-pub deliver-requires-clause-inside : goal.deliver-requires-clause-inside
-deliver-requires-clause-inside c = c.requires.inside 0
-
-pub deliver-requires-2-clause-inside : goal.deliver-requires-2-clause-inside
-deliver-requires-2-clause-inside c = rw c.deliver.auto.heights (c.requires.inside 1)
-
-pub deliver-requires-3-clause-inside : goal.deliver-requires-3-clause-inside
-deliver-requires-3-clause-inside c = rw (c.deliver-2.auto.heights, c.deliver.auto.heights) (c.requires.inside 2)
-
-pub deliver-requires-4-clause-inside : goal.deliver-requires-4-clause-inside
-deliver-requires-4-clause-inside c =
-    rw (c.deliver-3.auto.heights, c.deliver-2.auto.heights, c.deliver.auto.heights) (c.requires.inside 3)
-
 pub returns-clause-each : goal.returns-clause-each
 returns-clause-each c g site e inside j l =
     let around = ap (λ m. c.args.times * m) (four_places g site j c.args.around e inside l) in

@@ -13,25 +13,18 @@ inside same site lt = subst (λ (u : OneView). site < sites (grid_of_one_pile u)
 pub times-requires-clause-bound : goal.times-requires-clause-bound
 times-requires-clause-bound c =
     let lt = inside c.self.view_is c.args.site c.requires in
-    let one = ap sites c.self.invariant.one_grid in
-    let few = few_counts c.self.invariant c.args.site (omega arith) in
-    omega arith
+    omega (arith, few_counts c.self.invariant c.args.site (omega (arith, ap sites c.self.invariant.one_grid)))
 
 pub overflow_add-result : goal.overflow_add-result
 overflow_add-result c =
     let lt = inside c.self.view_is c.args.site c.requires in
-    let one = ap sites c.self.invariant.one_grid in
-    let few = few_counts c.self.invariant c.args.site (omega arith) in
-    let first = c.odometer.ensures in
-    let more = c.times.ensures in
-    record { fits = omega arith }
+    let few = few_counts c.self.invariant c.args.site (omega (arith, ap sites c.self.invariant.one_grid)) in
+    record { fits = omega (arith, c.odometer.ensures, c.times.ensures) }
 
 pub returns : goal.returns
 returns c =
     let at = by_site_at c.self.inside.start.pile.grid
     (λ j. slice_index c.self.inside.start.odometer j + slice_index c.self.inside.fronts.times j)
     c.args.site (inside c.self.view_is c.args.site c.requires) in
-    let first = c.odometer.ensures in
-    let more = c.times.ensures in
     subst (λ (v : OneView). c.odometer.result + c.times.result ≡ odometer_of v.settled c.args.site)
-    c.self.view_is (omega arith)
+    c.self.view_is (omega (arith, c.odometer.ensures, c.times.ensures))
