@@ -6,7 +6,7 @@ use Rattle.std.proofs.lemmas.List.{get_or-set_same, get_or-set_other}
 use Rattle.std.proofs.lemmas.List.Sums.{sum_by-cons}
 use Rattle.sand_model.specs.Grid.{Grid, sites, places, missing}
 use Rattle.sand_model.specs.Sand.{sum_below, one_at, value_at, grains, lost, IsToppled}
-use Rattle.sand_model.proofs.SumsBelow.{sum_below_same, sum_below-scale, sum_below-one_at, one_at_other}
+use Rattle.sand_model.proofs.SumsBelow.{sum_below-one_at, one_at_other}
 use Rattle.sand_model.proofs.Flow.{four_places, flow-scale}
 use Rattle.sand_model.proofs.Sandpile.{laplacian_sum}
 
@@ -50,13 +50,6 @@ pub counted : (i k : ℕ) (u v : List ℕ) → i < length u → v ≡ set u i (g
     → get_or v j 0 ≡ get_or u j 0 + k * one_at i j
 counted i k u v inside e j = let all = get_or-written u i (get_or u i 0 + k) j inside in rw e (omega arith)
 
-pub lost_at : (g : Grid) (i t : ℕ) → i < sites g → lost g (λ j. t * one_at i j) ≡ t * missing g i
-lost_at g i t l =
-    sum_below_same (sites g) (λ j. missing g j * (t * one_at i j))
-    (λ j. t * (missing g j * one_at i j)) (λ j m. omega arith)
-    ∙ sum_below-scale (sites g) t (λ j. missing g j * one_at i j)
-    ∙ ap (λ k. t * k) (sum_below-one_at (sites g) i (missing g) l)
-
 -- a site that gave t grains to each of its places toppled t times
 pub spread_toppled : (g : Grid) (i t : ℕ) (h k : List ℕ) (ps : List (Option ℕ))
     → ps ≡ places g i → i < sites g → length h ≡ sites g → 4 * t ≤ get_or h i 0
@@ -66,39 +59,35 @@ pub spread_toppled : (g : Grid) (i t : ℕ) (h k : List ℕ) (ps : List (Option 
     → IsToppled g (λ j. get_or h j 0) (λ j. t * one_at i j) (λ j. get_or k j 0)
 spread_toppled g i t h k ps e l len high after = record {
   balance = λ j m.
-      let scaled = flow-scale g t (one_at i) j in
-      let here = after j in
       let parts = ap (λ q. t * q) (four_places g i j ps e l m) in
       let rest : get_or h i 0 - 4 * t + 4 * t ≡ get_or h i 0 = omega arith in
       let taken = ap (λ q. q * one_at i j) rest in
-      let written = get_or-written h i (get_or h i 0 - 4 * t) j (omega arith) in
-      omega arith;
+      omega (
+        arith,
+        flow-scale g t (one_at i) j,
+        after j,
+        get_or-written h i (get_or h i 0 - 4 * t) j (omega arith),
+      );
 }
 
 pub toppled_once : (g : Grid) (i : ℕ) (h k : List ℕ)
     → IsToppled g (λ j. get_or h j 0) (λ j. 1 * one_at i j) (λ j. get_or k j 0)
     → IsToppled g (λ j. get_or h j 0) (one_at i) (λ j. get_or k j 0)
-toppled_once g i h k done = record {
-  balance = λ j l.
-      let e = done.balance j l in
-      let around = flow-scale g 1 (one_at i) j in
-      omega arith;
-}
+toppled_once g i h k done = record { balance = λ j l. omega (arith, done.balance j l, flow-scale g 1 (one_at i) j) }
 
 pub sum_left : (g : Grid) (h k : List ℕ) (v : ℕ → ℕ) → length h ≡ sites g
     → length k ≡ sites g → IsToppled g (λ j. get_or h j 0) v (λ j. get_or k j 0)
     → sum h ≡ sum k + lost g v
-sum_left g h k v before after done =
-    let all = laplacian_sum g (λ j. get_or h j 0) v (λ j. get_or k j 0) done in
-    let first = sum_is_grains g h before in
-    let last = sum_is_grains g k after in
-    omega arith
+sum_left g h k v before after done = omega (
+  arith,
+  laplacian_sum g (λ j. get_or h j 0) v (λ j. get_or k j 0) done,
+  sum_is_grains g h before,
+  sum_is_grains g k after,
+)
 
 pub spread_sum : (g : Grid) (i : ℕ) (h k : List ℕ)
     → i < sites g → length h ≡ sites g → length k ≡ sites g
     → IsToppled g (λ j. get_or h j 0) (one_at i) (λ j. get_or k j 0)
     → sum k + missing g i ≡ sum h
 spread_sum g i h k l lh lk done =
-    let left = sum_left g h k (one_at i) lh lk done in
-    let out = sum_below-one_at (sites g) i (missing g) l in
-    omega arith
+    omega (arith, sum_left g h k (one_at i) lh lk done, sum_below-one_at (sites g) i (missing g) l)

@@ -1,7 +1,8 @@
 -- The four places around a site: their number, that they are sites, and that neighbours are mutual.
-use Rattle.std.proofs.Common.{ℕ, zero, suc, ◌≡◌, ◌+◌, ◌-◌, ◌*◌, ◌/◌, ◌%◌, ◌<◌, ◌≤◌, ◌⊎◌, Bool, true, false, cond, eqb, ltb, refl, sym, ◌∙◌, ap, arith, ⊎_elim, inl, inr, List, [], ◌∷◌, length, Option, Some, None, All, sum_by, count_by, is_none, IfSome, get_or}
+use Rattle.std.proofs.Common.{ℕ, zero, suc, ◌≡◌, ◌+◌, ◌-◌, ◌*◌, ◌/◌, ◌%◌, ◌<◌, ◌≤◌, Bool, true, false, cond, ltb, refl, ap, arith, List, [], ◌∷◌, length, Option, Some, None, All, sum_by, count_by, is_none, IfSome, get_or}
 use Rattle.std.specs.List.{filter_map}
-use Rattle.std.proofs.lemmas.Bool.{cases_eq, cases_lt, eq-eqb, ne_eqb, lt-ltb, le-ltb, cases_Bool, ltb-true, ltb-false}
+use Rattle.std.proofs.lemmas.Bool.{ltb-true, ltb-false}
+use Rattle.std.proofs.lemmas.Bool.Decides.{nat_tests}
 use Rattle.std.proofs.lemmas.List.Sums.{sum_by-cons}
 use Rattle.std.proofs.lemmas.Nat.{le-div, div_below, mod_below, mod-mul-add, mul-add-lt, div-add-mod'}
 use Rattle.std.proofs.lemmas.List.Elements.{All-cons, All-nil}
@@ -31,10 +32,6 @@ pub occurrences_places : (g : Grid) (i j : ℕ) (ps : List (Option ℕ)) → ps 
 unfolding flow
 occurrences_places g i j ps e = rw e (flow_four g (λ k. one_at k j) i)
 
-value_at-cond : (u : ℕ → ℕ) (b : Bool) (k : ℕ) → value_at u (cond b (Some k) None) ≡ cond b (u k) 0
-value_at-cond u true k = refl
-value_at-cond u false k = refl
-
 pub cond_same : (b : Bool) (n : ℕ) → cond b n n ≡ n
 cond_same true n = refl
 cond_same false n = refl
@@ -61,22 +58,13 @@ some_width zero h i l = absurd (omega arith)
 some_width (suc w) h i l = omega arith
 
 pub row_above : (w i : ℕ) → 0 < w → (0 < i / w → w ≤ i) × (w ≤ i → 0 < i / w)
-row_above w i pos = (
-  (λ up. ⊎_elim
-      (λ (less : i < w). let none : i / w < 1 = div_below i w 1 pos (omega arith) in absurd (omega arith))
-      (λ (le : w ≤ i). le)
-      (cases_lt i w)),
-  (λ le. le-div 1 i w pos (omega arith)),
-)
+row_above w i pos = (λ up. grind (arith, div_below i w 1 pos), λ le. le-div 1 i w pos (omega arith))
 
 pub row_below : (w h j : ℕ) → 0 < w → (j / w + 1 < h → j + w < w * h) × (j + w < w * h → j / w + 1 < h)
 row_below w zero j pos = ((λ l. absurd (omega arith)), (λ l. absurd (omega arith)))
 row_below w (suc m) j pos = (
-  (λ l. ⊎_elim
-      (λ (less : j < m * w). omega arith)
-      (λ (le : m * w ≤ j). let far : m ≤ j / w = le-div m j w pos le in absurd (omega arith))
-      (cases_lt j (m * w))),
-  (λ l. let near : j / w < m = div_below j w m pos (omega arith) in omega arith),
+  λ l. grind (arith, le-div m j w pos),
+  λ l. let near : j / w < m = div_below j w m pos (omega arith) in omega arith,
 )
 
 next_column : (w i : ℕ) → 0 < w → (i % w + 1 < w → (i + 1) % w ≡ i % w + 1) × (w ≤ i % w + 1 → (i + 1) % w ≡ 0)
@@ -95,30 +83,7 @@ north_south g i j li lj =
     let pos : 0 < g.width = some_width g.width g.height i li in
     let above = row_above g.width i pos in
     let below = row_below g.width g.height j pos in
-    rw (value_at-cond, value_at-cond)
-    (⊎_elim
-    (λ (e : j + g.width ≡ i).
-    let up : ltb 0 (i / g.width) ≡ true = lt-ltb 0 (i / g.width) (above.1 (omega arith)) in
-    let down : ltb (j / g.width + 1) g.height ≡ true = lt-ltb (j / g.width + 1) g.height (below.1 (omega arith)) in
-    let there : eqb (i - g.width) j ≡ true = eq-eqb (i - g.width) j (omega arith) in
-    let back : eqb (j + g.width) i ≡ true = eq-eqb (j + g.width) i e in
-    rw (up, down, there, back))
-    (λ (ne : j + g.width ≡ i → ⊥).
-    let back : eqb (j + g.width) i ≡ false = ne_eqb (j + g.width) i ne in
-    ⊎_elim
-    (λ (up : ltb 0 (i / g.width) ≡ true).
-    let le : g.width ≤ i = above.0 (ltb-true 0 (i / g.width) up) in
-    let there : eqb (i - g.width) j ≡ false = ne_eqb (i - g.width) j (λ e. ne (omega arith)) in
-    rw (up, there, back) (sym (cond_same _ 0)))
-    (λ (up : ltb 0 (i / g.width) ≡ false). rw (up, back) (sym (cond_same _ 0)))
-    (cases_Bool (ltb 0 (i / g.width))))
-    (cases_eq (j + g.width) i))
-
-side : (u : ℕ → ℕ) (near wraps : Bool) (a b : ℕ)
-    → value_at u (cond near (Some a) (cond wraps (Some b) None)) ≡ cond near (u a) (cond wraps (u b) 0)
-side u true wraps a b = refl
-side u false true a b = refl
-side u false false a b = refl
+    grind (arith, nat_tests, above.0, above.1, below.0, below.1)
 
 last_in_row : (w i j : ℕ) → 0 < w → i % w ≡ 0 → i + (w - 1) ≡ j → j % w + 1 < w → ⊥
 last_in_row w i j pos first e inside =
@@ -142,156 +107,99 @@ before_last w i j pos some e last =
     omega arith
 
 -- i is just west of j, or at the other end of its row, if and only if j is just east of i
-sides_meet : (w : ℕ) (wraps : Bool) (i j : ℕ) → 0 < w
-    → cond (ltb 0 (i % w)) (one_at (i - 1) j) (cond wraps (one_at (i + (w - 1)) j) 0)
-    ≡ cond (ltb (j % w + 1) w) (one_at (j + 1) i) (cond wraps (one_at (j - (w - 1)) i) 0)
-sides_meet w wraps i j pos =
-    let next = next_column w j pos in
-    let parts-i = div-add-mod' i w in
-    let parts-j = div-add-mod' j w in
-    let small-i = mod_below i w pos in
-    let small-j = mod_below j w pos in
-    ⊎_elim
-    (λ (inside : j % w + 1 < w).
-    let east : ltb (j % w + 1) w ≡ true = lt-ltb (j % w + 1) w inside in
-    ⊎_elim
-    (λ (e : j + 1 ≡ i).
-    let c = next.0 inside in
-    let column : (j + 1) % w ≡ i % w = ap (λ k. k % w) e in
-    let west : ltb 0 (i % w) ≡ true = lt-ltb 0 (i % w) (omega arith) in
-    let there : eqb (i - 1) j ≡ true = eq-eqb (i - 1) j (omega arith) in
-    let back : eqb (j + 1) i ≡ true = eq-eqb (j + 1) i e in
-    rw (west, east, there, back))
-    (λ (ne : j + 1 ≡ i → ⊥).
-    let back : eqb (j + 1) i ≡ false = ne_eqb (j + 1) i ne in
-    ⊎_elim
-    (λ (some : 0 < i % w).
-    let west : ltb 0 (i % w) ≡ true = lt-ltb 0 (i % w) some in
-    let there : eqb (i - 1) j ≡ false = ne_eqb (i - 1) j (λ e. ne (omega arith)) in
-    rw (west, east, there, back))
-    (λ (first : i % w ≤ 0).
-    let west : ltb 0 (i % w) ≡ false = le-ltb 0 (i % w) first in
-    let far : eqb (i + (w - 1)) j ≡ false =
-    ne_eqb (i + (w - 1)) j (λ e. last_in_row w i j pos (omega arith) e inside) in
-    rw (west, east, far, back) (cond_same wraps 0))
-    (cases_lt 0 (i % w)))
-    (cases_eq (j + 1) i))
-    (λ (last : w ≤ j % w + 1).
-    let east : ltb (j % w + 1) w ≡ false = le-ltb (j % w + 1) w last in
-    ⊎_elim
-    (λ (some : 0 < i % w).
-    let west : ltb 0 (i % w) ≡ true = lt-ltb 0 (i % w) some in
-    let there : eqb (i - 1) j ≡ false = ne_eqb (i - 1) j (λ e. before_last w i j pos some (omega arith) last) in
-    let far : eqb (j - (w - 1)) i ≡ false = ne_eqb (j - (w - 1)) i (λ e. first_in_row w i j pos last e some) in
-    rw (west, east, there, far) (sym (cond_same wraps 0)))
-    (λ (first : i % w ≤ 0).
-    let west : ltb 0 (i % w) ≡ false = le-ltb 0 (i % w) first in
-    rw (west, east)
-    (⊎_elim
-    (λ (e : i + (w - 1) ≡ j).
-    let there : eqb (i + (w - 1)) j ≡ true = eq-eqb (i + (w - 1)) j e in
-    let back : eqb (j - (w - 1)) i ≡ true = eq-eqb (j - (w - 1)) i (omega arith) in
-    rw (there, back))
-    (λ (ne : i + (w - 1) ≡ j → ⊥).
-    let there : eqb (i + (w - 1)) j ≡ false = ne_eqb (i + (w - 1)) j ne in
-    let back : eqb (j - (w - 1)) i ≡ false = ne_eqb (j - (w - 1)) i (λ e. ne (omega arith)) in
-    rw (there, back))
-    (cases_eq (i + (w - 1)) j)))
-    (cases_lt 0 (i % w)))
-    (cases_lt (j % w + 1) w)
-
 west_east : (g : Grid) (i j : ℕ) → i < sites g → j < sites g
     → value_at (λ k. one_at k j) (west g i) ≡ value_at (λ k. one_at k i) (east g j)
 unfolding west east
 west_east g i j li lj =
-    side (λ k. one_at k j) (ltb 0 (i % g.width)) (joins g.edge) (i - 1) (i + (g.width - 1))
-    ∙ sides_meet g.width (joins g.edge) i j (some_width g.width g.height i li)
-    ∙ sym (side (λ k. one_at k i) (ltb (j % g.width + 1) g.width) (joins g.edge) (j + 1) (j - (g.width - 1)))
-
-occurrences_is : (xs : List ℕ) (i : ℕ) → occurrences xs i ≡ sum_by (λ k. one_at k i) xs
-occurrences_is xs i = refl
+    let w = g.width in
+    let pos : 0 < w = some_width w g.height i li in
+    let column : j + 1 ≡ i → (j + 1) % w ≡ i % w = ap (λ k. k % w) in
+    let next = next_column w j pos in
+    let small-i = mod_below i w pos in
+    let small-j = mod_below j w pos in
+    let last = last_in_row w i j pos in
+    let first = first_in_row w i j pos in
+    let before = before_last w i j pos in
+    let near-i = div-add-mod' i w in
+    let near-j = div-add-mod' j w in
+    grind (arith, nat_tests, next.0, next.1)
 
 pub neighbours_mutual : (g : Grid) (i j : ℕ) → i < sites g → j < sites g
     → occurrences (neighbours g i) j ≡ occurrences (neighbours g j) i
-unfolding flow
-neighbours_mutual g i j li lj =
-    let a = flow_four g (λ k. one_at k j) i in
-    let b = flow_four g (λ k. one_at k i) j in
-    let ns = north_south g i j li lj in
-    let sn = north_south g j i lj li in
-    let we = west_east g i j li lj in
-    let ew = west_east g j i lj li in
-    occurrences_is (neighbours g i) j ∙ (omega arith) ∙ sym (occurrences_is (neighbours g j) i)
-
-somes_below : (n : ℕ) (p : Option ℕ) (ps : List (Option ℕ))
-    → ((k : ℕ) → p ≡ Some k → k < n) → All (λ k. k < n) (filter_map (λ q. q) ps)
-    → All (λ k. k < n) (filter_map (λ q. q) (p ∷ ps))
-somes_below n None ps here rest = rest
-somes_below n (Some k) ps here rest = All-cons (λ j. j < n) k (filter_map (λ q. q) ps) (here k refl) rest
+neighbours_mutual g i j li lj = omega (
+  arith,
+  occurrences_places g i j (places g i) refl,
+  occurrences_places g j i (places g j) refl,
+  north_south g i j li lj,
+  north_south g j i lj li,
+  west_east g i j li lj,
+  west_east g j i lj li,
+)
 
 pub some_from : (b : Bool) (m k : ℕ) → cond b (Some m) None ≡ Some k → (b ≡ true) × (m ≡ k)
 some_from true m k e = (refl, cc)
 some_from false m k e = absurd cc
-
-north_below : (g : Grid) (i k : ℕ) → i < sites g → north g i ≡ Some k → k < sites g
-unfolding north
-north_below g i k l e = let at = some_from _ (i - g.width) k e in omega arith
-
-side_from : (near wraps : Bool) (a b k : ℕ) → cond near (Some a) (cond wraps (Some b) None) ≡ Some k
-    → ((near ≡ true) × (a ≡ k)) ⊎ ((near ≡ false) × (b ≡ k))
-side_from true wraps a b k e = inl (refl, cc)
-side_from false true a b k e = inr (refl, cc)
-side_from false false a b k e = absurd cc
 
 in_row : (w h i c : ℕ) → i < w * h → c < w → i / w * w + c < w * h
 in_row w h i c l inside =
     let pos = some_width w h i l in
     mul-add-lt (i / w) w c h (div_below i w h pos (omega arith)) inside
 
-west_below : (g : Grid) (i k : ℕ) → i < sites g → west g i ≡ Some k → k < sites g
+-- each place around a site, if it is in the grid, is a site
+if_near : (n : ℕ) (near wraps : Bool) (a b : ℕ) → (near ≡ true → a < n) → (near ≡ false → wraps ≡ true → b < n)
+    → IfSome (cond near (Some a) (cond wraps (Some b) None)) (λ j. j < n)
+if_near n true wraps a b here there = here refl
+if_near n false true a b here there = there refl refl
+if_near n false false a b here there = tt
+
+if_in : (n : ℕ) (b : Bool) (a : ℕ) → (b ≡ true → a < n) → IfSome (cond b (Some a) None) (λ j. j < n)
+if_in n true a here = here refl
+if_in n false a here = tt
+
+north_below : (g : Grid) (i : ℕ) → i < sites g → IfSome (north g i) (λ j. j < sites g)
+unfolding north
+north_below g i l = if_in (sites g) _ (i - g.width) (λ up. omega arith)
+
+west_below : (g : Grid) (i : ℕ) → i < sites g → IfSome (west g i) (λ j. j < sites g)
 unfolding west
-west_below g i k l e =
+west_below g i l =
     let pos : 0 < g.width = some_width g.width g.height i l in
     let parts = div-add-mod' i g.width in
     let last = in_row g.width g.height i (g.width - 1) l (omega arith) in
-    ⊎_elim (λ (at : (ltb 0 (i % g.width) ≡ true) × (i - 1 ≡ k)). omega arith)
-    (λ (at : (ltb 0 (i % g.width) ≡ false) × (i + (g.width - 1) ≡ k)). let first = ltb-false _ _ at.0 in omega arith)
-    (side_from (ltb 0 (i % g.width)) (joins g.edge) (i - 1) (i + (g.width - 1)) k e)
+    if_near (sites g) (ltb 0 (i % g.width)) (joins g.edge) (i - 1) (i + (g.width - 1)) (λ near. omega arith)
+    (λ far wraps. omega (arith, ltb-false 0 (i % g.width) far))
 
-east_below : (g : Grid) (i k : ℕ) → i < sites g → east g i ≡ Some k → k < sites g
+east_below : (g : Grid) (i : ℕ) → i < sites g → IfSome (east g i) (λ j. j < sites g)
 unfolding east
-east_below g i k l e =
+east_below g i l =
     let parts = div-add-mod' i g.width in
-    ⊎_elim (λ (at : (ltb (i % g.width + 1) g.width ≡ true) × (i + 1 ≡ k)).
-    let next = in_row g.width g.height i (i % g.width + 1) l (ltb-true _ _ at.0) in omega arith)
-    (λ (at : (ltb (i % g.width + 1) g.width ≡ false) × (i - (g.width - 1) ≡ k)). omega arith)
-    (side_from (ltb (i % g.width + 1) g.width) (joins g.edge) (i + 1) (i - (g.width - 1)) k e)
+    if_near (sites g) (ltb (i % g.width + 1) g.width) (joins g.edge) (i + 1) (i - (g.width - 1))
+    (λ near. let next = in_row g.width g.height i (i % g.width + 1) l (ltb-true _ _ near) in omega arith)
+    (λ far wraps. omega arith)
 
-south_below : (g : Grid) (i k : ℕ) → i < sites g → south g i ≡ Some k → k < sites g
+south_below : (g : Grid) (i : ℕ) → i < sites g → IfSome (south g i) (λ j. j < sites g)
 unfolding south
-south_below g i k l e =
-    let at = some_from _ (i + g.width) k e in
-    let pos : 0 < g.width = some_width g.width g.height i l in
-    let next = (row_below g.width g.height i pos).0 (ltb-true _ _ at.0) in
-    omega arith
+south_below g i l = if_in (sites g) _ (i + g.width)
+    (λ down. (row_below g.width g.height i (some_width g.width g.height i l)).0 (ltb-true _ _ down))
+
+somes_below : (n : ℕ) (p : Option ℕ) (ps : List (Option ℕ)) → IfSome p (λ k. k < n)
+    → All (λ k. k < n) (filter_map (λ q. q) ps) → All (λ k. k < n) (filter_map (λ q. q) (p ∷ ps))
+somes_below n None ps here rest = rest
+somes_below n (Some k) ps here rest = All-cons (λ j. j < n) k (filter_map (λ q. q) ps) here rest
 
 pub neighbours_below : (g : Grid) (i : ℕ) → i < sites g → All (λ j. j < sites g) (neighbours g i)
 unfolding neighbours
 neighbours_below g i l =
-    somes_below (sites g) (north g i) (west g i ∷ east g i ∷ south g i ∷ []) (λ k. north_below g i k l)
-    (somes_below (sites g) (west g i) (east g i ∷ south g i ∷ []) (λ k. west_below g i k l)
-    (somes_below (sites g) (east g i) (south g i ∷ []) (λ k. east_below g i k l)
-    (somes_below (sites g) (south g i) [] (λ k. south_below g i k l) (All-nil (λ j. j < sites g)))))
-
-if_some : (n : ℕ) (p : Option ℕ) → ((k : ℕ) → p ≡ Some k → k < n) → IfSome p (λ j. j < n)
-if_some n None h = tt
-if_some n (Some k) h = h k refl
+    somes_below (sites g) (north g i) (west g i ∷ east g i ∷ south g i ∷ []) (north_below g i l)
+    (somes_below (sites g) (west g i) (east g i ∷ south g i ∷ []) (west_below g i l)
+    (somes_below (sites g) (east g i) (south g i ∷ []) (east_below g i l)
+    (somes_below (sites g) (south g i) [] (south_below g i l) (All-nil (λ j. j < sites g)))))
 
 place_below : (g : Grid) (i k : ℕ) → i < sites g → IfSome (get_or (places g i) k None) (λ j. j < sites g)
-place_below g i zero l = if_some (sites g) (north g i) (λ k. north_below g i k l)
-place_below g i (suc zero) l = if_some (sites g) (west g i) (λ k. west_below g i k l)
-place_below g i (suc (suc zero)) l = if_some (sites g) (east g i) (λ k. east_below g i k l)
-place_below g i (suc (suc (suc zero))) l = if_some (sites g) (south g i) (λ k. south_below g i k l)
+place_below g i zero l = north_below g i l
+place_below g i (suc zero) l = west_below g i l
+place_below g i (suc (suc zero)) l = east_below g i l
+place_below g i (suc (suc (suc zero))) l = south_below g i l
 place_below g i (suc (suc (suc (suc k)))) l = tt
 
 pub place_inside : (g : Grid) (i n k : ℕ) (ps : List (Option ℕ)) → ps ≡ places g i → i < sites g → n ≡ sites g
