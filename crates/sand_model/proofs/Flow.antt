@@ -5,7 +5,7 @@ use Rattle.std.proofs.lemmas.List.Elements.{All-head, All-tail}
 use Rattle.sand_model.specs.Grid.{Grid, sites, places, neighbours}
 use Rattle.sand_model.specs.Sand.{sum_below, occurrences, flow, one_at, value_at}
 use Rattle.sand_model.specs.Lists.{one_if}
-use Rattle.sand_model.proofs.SumsBelow.{sum_below_same, sum_below-add, sum_below-scale, sum_below-zero, sum_below_swap, sum_below-one_at, one_at_comm}
+use Rattle.sand_model.proofs.SumsBelow.{sum_below_same, sum_below_both, sum_below-scale, sum_below-zero, sum_below_swap, sum_below-one_at, one_at_comm}
 use Rattle.sand_model.proofs.Neighbours.{flow_four, neighbours_mutual, neighbours_below}
 
 sum_by_below_le : (n : ℕ) (u v : ℕ → ℕ) → ((j : ℕ) → j < n → u j ≤ v j) → (xs : List ℕ) → All (λ j. j < n) xs
@@ -35,10 +35,8 @@ sum_by_spread n u [] below = sym (sum_below_same n (λ j. u j * 0) (λ j. 0) (λ
 sum_by_spread n u (x ∷ xs) below =
     let rest = sum_by_spread n u xs (All-tail (λ j. j < n) x xs below) in
     let here = sum_below-one_at n x u (All-head (λ j. j < n) x xs below) in
-    let both = sum_below-add n (λ j. u j * one_at x j) (λ j. u j * occurrences xs j) in
-    let cons : sum_below n (λ j. u j * occurrences (x ∷ xs) j) ≡ sum_below n (λ j. u j * one_at x j + u j * occurrences xs j) =
-    sum_below_same n (λ j. u j * occurrences (x ∷ xs) j) (λ j. u j * one_at x j + u j * occurrences xs j)
-    (λ j l. let c = sum_by-cons (λ k. one_at k j) x xs in rw c (omega arith)) in
+    let both = sum_below_both n (λ j. u j * one_at x j) (λ j. u j * occurrences xs j) (λ j. u j * occurrences (x ∷ xs) j)
+    (λ j l. rw (sum_by-cons (λ k. one_at k j) x xs) (omega arith)) in
     sum_by-cons u x xs ∙ (omega arith)
 
 pub flow_le : (g : Grid) (u v : ℕ → ℕ) → ((j : ℕ) → j < sites g → u j ≤ v j) → (i : ℕ) → i < sites g
@@ -48,10 +46,11 @@ flow_le g u v le i l = sum_by_below_le (sites g) u v le (neighbours g i) (neighb
 
 pub flow_same : (g : Grid) (u v : ℕ → ℕ) → ((j : ℕ) → j < sites g → u j ≡ v j) → (i : ℕ) → i < sites g
     → flow g u i ≡ flow g v i
-flow_same g u v same i l =
-    let up = flow_le g u v (λ j m. let e = same j m in omega arith) i l in
-    let down = flow_le g v u (λ j m. let e = same j m in omega arith) i l in
-    omega arith
+flow_same g u v same i l = omega (
+  arith,
+  flow_le g u v (λ j m. omega (arith, same j m)) i l,
+  flow_le g v u (λ j m. omega (arith, same j m)) i l,
+)
 
 pub flow-add : (g : Grid) (u v : ℕ → ℕ) (i : ℕ) → flow g (λ j. u j + v j) i ≡ flow g u i + flow g v i
 unfolding flow
@@ -83,14 +82,11 @@ flow_self_adjoint g f u =
     ∙ sum_below-scale (sites g) (u j) (λ i. f i * occurrences (neighbours g j) i)
     ∙ ap (λ k. u j * k) (sym (flow_spread g f j m)))
 
-flow_mutual : (g : Grid) (i j : ℕ) → i < sites g → j < sites g → flow g (λ k. one_at k j) i ≡ flow g (λ k. one_at k i) j
-unfolding flow
-flow_mutual g i j li lj = neighbours_mutual g i j li lj
-
 -- one toppling at i gives j a grain for each time that j is a neighbour of i
 pub flow-one_at : (g : Grid) (i j : ℕ) → i < sites g → j < sites g → flow g (one_at i) j ≡ flow g (λ k. one_at k j) i
+unfolding flow
 flow-one_at g i j li lj =
-    flow_same g (one_at i) (λ k. one_at k i) (λ k m. one_at_comm i k) j lj ∙ flow_mutual g j i lj li
+    flow_same g (one_at i) (λ k. one_at k i) (λ k m. one_at_comm i k) j lj ∙ neighbours_mutual g j i lj li
 
 -- the same, place by place
 pub four_places : (g : Grid) (i j : ℕ) (ps : List (Option ℕ)) → ps ≡ places g i → i < sites g → j < sites g

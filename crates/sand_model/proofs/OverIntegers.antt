@@ -48,59 +48,28 @@ pub laplacian-parts : (g : Grid) (z : ℕ → ℤ) (i : ℕ)
     → laplacian g z i ≡ (pos (4 * above (z i)) +ℤ pos (flow g (λ j. below (z j)) i))
     -ℤ (pos (4 * below (z i)) +ℤ pos (flow g (λ j. above (z j)) i))
 unfolding laplacian flow
-laplacian-parts g z i =
-    let here = parts (z i) in
-    let around = whole_sum_by_parts z (neighbours g i) in
-    omega (arith, ints)
+laplacian-parts g z i = omega (arith, ints, parts (z i), whole_sum_by_parts z (neighbours g i))
 
 -- t = s - Lu
-toppled_over_integers : (g : Grid) (s u t : ℕ → ℕ) → IsToppled g s u t → (i : ℕ) → i < sites g
-    → pos (t i) ≡ pos (s i) -ℤ laplacian g (whole u) i
-toppled_over_integers g s u t done i l =
-    let is = laplacian-whole g u i in
-    let e = done.balance i l in
-    omega (arith, ints)
-
-toppled_from_integers : (g : Grid) (s u t : ℕ → ℕ)
-    → ((i : ℕ) → i < sites g → pos (t i) ≡ pos (s i) -ℤ laplacian g (whole u) i)
-    → IsToppled g s u t
-toppled_from_integers g s u t done = record {
-  balance = λ i l.
-      let is = laplacian-whole g u i in
-      let e = done i l in
-      omega (arith, ints);
-}
-
 pub toppled_is_integers : (g : Grid) (s u t : ℕ → ℕ)
     → IsToppled g s u t ↔ ((i : ℕ) → i < sites g → pos (t i) ≡ pos (s i) -ℤ laplacian g (whole u) i)
-toppled_is_integers g s u t = (toppled_over_integers g s u t, toppled_from_integers g s u t)
+toppled_is_integers g s u t = (
+  λ done i l. omega (arith, ints, laplacian-whole g u i, done.balance i l),
+  λ done. record { balance = λ i l. omega (arith, ints, laplacian-whole g u i, done i l) },
+)
 
 -- s - Lu ≤ 3
-stabilises_over_integers : (g : Grid) (s u : ℕ → ℕ) → Stabilises g s u → (i : ℕ) → i < sites g
-    → (pos (s i) -ℤ laplacian g (whole u) i) ≤ℤ pos 3
-stabilises_over_integers g s u done i l =
-    let is = laplacian-whole g u i in
-    let e = done.at_most_three i l in
-    omega (arith, ints)
-
-stabilises_from_integers : (g : Grid) (s u : ℕ → ℕ)
-    → ((i : ℕ) → i < sites g → (pos (s i) -ℤ laplacian g (whole u) i) ≤ℤ pos 3)
-    → Stabilises g s u
-stabilises_from_integers g s u low = record {
-  at_most_three = λ i l.
-      let is = laplacian-whole g u i in
-      let e = low i l in
-      omega (arith, ints);
-}
-
 pub stabilises_is_integers : (g : Grid) (s u : ℕ → ℕ)
     → Stabilises g s u ↔ ((i : ℕ) → i < sites g → (pos (s i) -ℤ laplacian g (whole u) i) ≤ℤ pos 3)
-stabilises_is_integers g s u = (stabilises_over_integers g s u, stabilises_from_integers g s u)
+stabilises_is_integers g s u = (
+  λ done i l. omega (arith, ints, laplacian-whole g u i, done.at_most_three i l),
+  λ low. record { at_most_three = λ i l. omega (arith, ints, laplacian-whole g u i, low i l) },
+)
 
 pub settled_equivalent : (g : Grid) (s u t : ℕ → ℕ) → IsSettled g s u t → IsEquivalent g (whole s) (whole t)
 settled_equivalent g s u t done = record {
   by_topplings = whole u;
-  difference = λ i l. let e = toppled_over_integers g s u t done.toppled i l in omega (arith, ints);
+  difference = λ i l. omega (arith, ints, (toppled_is_integers g s u t).0 done.toppled i l);
 }
 
 -- ---- the sum over all sites
@@ -135,18 +104,19 @@ whole_sum_below-laplacian g u =
     (laplacian g u) (λ i l. let e = laplacian-parts g u i in omega (arith, ints)) in
     let of_lost = whole_sum_below_parts (sites g) (λ i. missing g i * a i) (λ i. missing g i * b i)
     (λ i. pos (missing g i) *ℤ u i) (λ i l. product-parts (missing g i) (u i)) in
-    let four_a = sum_below-scale (sites g) 4 a in
-    let four_b = sum_below-scale (sites g) 4 b in
-    let sum_a = sum_below-add (sites g) (λ i. 4 * a i) (flow g b) in
-    let sum_b = sum_below-add (sites g) (λ i. 4 * b i) (flow g a) in
-    let lost_a = flow_and_lost g a in
-    let lost_b = flow_and_lost g b in
-    omega (arith, ints)
+    omega (
+      arith,
+      ints,
+      sum_below-scale (sites g) 4 a,
+      sum_below-scale (sites g) 4 b,
+      sum_below-add (sites g) (λ i. 4 * a i) (flow g b),
+      sum_below-add (sites g) (λ i. 4 * b i) (flow g a),
+      flow_and_lost g a,
+      flow_and_lost g b,
+    )
 
 pub laplacian_sum_over_integers : (g : Grid) (s u : ℕ → ℤ)
     → whole_sum_below (sites g) s ≡ whole_sum_below (sites g) (λ i. s i -ℤ laplacian g u i)
     +ℤ whole_sum_below (sites g) (λ i. pos (missing g i) *ℤ u i)
 laplacian_sum_over_integers g s u =
-    let split = whole_sum_below_split (sites g) s (laplacian g u) in
-    let all = whole_sum_below-laplacian g u in
-    omega (arith, ints)
+    omega (arith, ints, whole_sum_below_split (sites g) s (laplacian g u), whole_sum_below-laplacian g u)
