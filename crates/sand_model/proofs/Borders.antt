@@ -1,6 +1,6 @@
 -- The first and the last row, by the number of a site, and the column and row of the next site.
-use Rattle.std.proofs.Common.{ℕ, suc, ◌≡◌, ◌+◌, ◌/◌, ◌%◌, ◌<◌, ◌≤◌, refl, sym, arith, add-one, None, ⊎_elim, Bool, true, false, leb, ltb, ◌&&◌}
-use Rattle.std.proofs.lemmas.Bool.{le-ltb, lt-ltb, lt-leb, le-leb, cases_lt}
+use Rattle.std.proofs.Common.{ℕ, suc, ◌≡◌, ◌+◌, ◌/◌, ◌%◌, ◌<◌, ◌≤◌, refl, sym, arith, add-one, None, Bool, true, false, leb, ltb, ◌&&◌}
+use Rattle.std.proofs.lemmas.Bool.Decides.{nat_tests}
 use Rattle.std.proofs.lemmas.Nat.{le-div, div_below, div-add-mod'}
 use Rattle.std.proofs.Math.Nat.{suc-mod, mod_self, mod-eq_of_lt}
 use Rattle.sand_model.specs.Grid.{Grid, sites, row, column, is_inner, north, south}
@@ -9,47 +9,20 @@ use Rattle.sand_model.proofs.Neighbours.{some_width, row_above, row_below}
 pub nothing_north : (g : Grid) (i : ℕ) → i < sites g → i < g.width → None ≡ north g i
 unfolding north
 nothing_north g i inside first =
-    let pos = some_width g.width g.height i inside in
-    let above = row_above g.width i pos in
-    ⊎_elim (λ (up : 0 < i / g.width). let far = above.0 up in absurd (omega arith))
-    (λ (top : i / g.width ≤ 0). rw (le-ltb 0 (i / g.width) top) refl)
-    (cases_lt 0 (i / g.width))
+    grind (arith, nat_tests, (row_above g.width i (some_width g.width g.height i inside)).0)
 
 pub nothing_south : (g : Grid) (i : ℕ) → i < sites g → sites g ≤ i + g.width → None ≡ south g i
 unfolding south
 nothing_south g i inside last =
-    let pos = some_width g.width g.height i inside in
-    let below = row_below g.width g.height i pos in
-    ⊎_elim (λ (down : i / g.width + 1 < g.height). let near = below.0 down in absurd (omega arith))
-    (λ (bottom : g.height ≤ i / g.width + 1). rw (le-ltb (i / g.width + 1) g.height bottom) refl)
-    (cases_lt (i / g.width + 1) g.height)
+    grind (arith, nat_tests, (row_below g.width g.height i (some_width g.width g.height i inside)).0)
 
 rows_told : (g : Grid) (i : ℕ) → i < sites g
     → (leb g.width i ≡ ltb 0 (row g i)) × (ltb (i + g.width) (sites g) ≡ ltb (row g i + 1) g.height)
 rows_told g i inside =
     let pos = some_width g.width g.height i inside in
     let above = row_above g.width i pos in
-    let below = row_below g.width g.height i pos in (
-      (⊎_elim (λ (less : i < g.width). rw (
-        lt-leb g.width i less,
-        le-ltb 0 (i / g.width) (⊎_elim
-            (λ (up : 0 < i / g.width). let far = above.0 up in absurd (omega arith))
-            (λ (le : i / g.width ≤ 0). le)
-            (cases_lt 0 (i / g.width))),
-      ) refl)
-          (λ (le : g.width ≤ i). rw (le-leb g.width i le, lt-ltb 0 (i / g.width) (above.1 le)) refl)
-          (cases_lt i g.width)),
-      (⊎_elim (λ (down : i / g.width + 1 < g.height).
-          rw (lt-ltb (i / g.width + 1) g.height down, lt-ltb (i + g.width) (sites g) (below.0 down)) refl)
-          (λ (last : g.height ≤ i / g.width + 1). rw (
-            le-ltb (i / g.width + 1) g.height last,
-            le-ltb (i + g.width) (sites g) (⊎_elim
-                (λ (near : i + g.width < sites g). let down = below.1 near in absurd (omega arith))
-                (λ (le : sites g ≤ i + g.width). le)
-                (cases_lt (i + g.width) (sites g))),
-          ) refl)
-          (cases_lt (i / g.width + 1) g.height)),
-    )
+    let below = row_below g.width g.height i pos in
+    (grind (arith, nat_tests, above.0, above.1), grind (arith, nat_tests, below.0, below.1))
 
 and_joined : (a b c d : Bool) → (((a && b) && c) && d) ≡ (a && b && c && d)
 and_joined true true c d = refl

@@ -25,10 +25,7 @@ laplacian-minus g z i = let all = whole_sum_by-minus z (neighbours g i) in omega
 pub equivalent_sym : (g : Grid) (s t : ℕ → ℤ) → IsEquivalent g s t → IsEquivalent g t s
 equivalent_sym g s t same = record {
   by_topplings = λ j. pos 0 -ℤ same.by_topplings j;
-  difference = λ i l.
-      let e = same.difference i l in
-      let turned = laplacian-minus g same.by_topplings i in
-      omega (arith, ints);
+  difference = λ i l. omega (arith, ints, same.difference i l, laplacian-minus g same.by_topplings i);
 }
 
 pub equivalent_add : (g : Grid) (s t r q : ℕ → ℤ) → IsEquivalent g s t → IsEquivalent g r q
@@ -36,10 +33,8 @@ pub equivalent_add : (g : Grid) (s t r q : ℕ → ℤ) → IsEquivalent g s t �
 equivalent_add g s t r q one two = record {
   by_topplings = λ j. one.by_topplings j +ℤ two.by_topplings j;
   difference = λ i l.
-      let a = one.difference i l in
-      let b = two.difference i l in
       let both = laplacian-add g one.by_topplings two.by_topplings i in
-      omega (arith, ints);
+      omega (arith, ints, one.difference i l, two.difference i l);
 }
 
 -- equivalence depends on the difference alone

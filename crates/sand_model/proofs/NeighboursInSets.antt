@@ -1,5 +1,5 @@
 -- How many neighbours of a site are in a set.
-use Rattle.std.proofs.Common.{ℕ, Bool, true, false, ◌≡◌, ◌<◌, ◌≤◌, refl, arith, Option, Some, None, count_by, ⊎_elim}
+use Rattle.std.proofs.Common.{ℕ, Bool, true, false, ◌≡◌, ◌<◌, ◌≤◌, refl, arith, Option, Some, None, count_by}
 use Rattle.std.proofs.lemmas.Bool.{cases_Bool}
 use Rattle.sand_model.specs.Grid.{Grid, sites, neighbours, north, west, east, south}
 use Rattle.sand_model.specs.Sand.{flow, value_at}
@@ -14,24 +14,21 @@ pub count_within : (g : Grid) (set other : ℕ → Bool) (i : ℕ) → i < sites
     → count_by set (neighbours g i) ≤ count_by other (neighbours g i)
 unfolding flow
 count_within g set other i l within =
-    flow_le g (indicator set) (indicator other)
-    (λ j m.
-    ⊎_elim (λ (yes : set j ≡ true). let also = within j m yes in rw (yes, also) (omega arith))
-    (λ (no : set j ≡ false). rw no (omega arith))
-    (cases_Bool (set j))) i l
+    flow_le g (indicator set) (indicator other) (λ j m. grind (arith, cases_Bool (set j), within j m)) i l
 
 place_at_most_one : (set : ℕ → Bool) (p : Option ℕ) → value_at (indicator set) p ≤ 1
 place_at_most_one set None = omega arith
 place_at_most_one set (Some j) = at_most_one (set j)
 
 pub flow_at_most_four : (g : Grid) (set : ℕ → Bool) (i : ℕ) → flow g (indicator set) i ≤ 4
-flow_at_most_four g set i =
-    let four = flow_four g (indicator set) i in
-    let n = place_at_most_one set (north g i) in
-    let w = place_at_most_one set (west g i) in
-    let e = place_at_most_one set (east g i) in
-    let s = place_at_most_one set (south g i) in
-    omega arith
+flow_at_most_four g set i = omega (
+  arith,
+  flow_four g (indicator set) i,
+  place_at_most_one set (north g i),
+  place_at_most_one set (west g i),
+  place_at_most_one set (east g i),
+  place_at_most_one set (south g i),
+)
 
 one_in_set : (b : Bool) → 1 ≤ one_if b → b ≡ true
 one_in_set true l = refl
@@ -45,10 +42,10 @@ north_in_set set (Some j) l = (j, refl, one_in_set (set j) l)
 -- a site with four neighbours in a set has a northern neighbour in it
 pub north_of_four : (g : Grid) (set : ℕ → Bool) (i : ℕ) → 4 ≤ flow g (indicator set) i
     → (j : ℕ) × (north g i ≡ Some j) × (set j ≡ true)
-north_of_four g set i l =
-    let four = flow_four g (indicator set) i in
-    let n = place_at_most_one set (north g i) in
-    let w = place_at_most_one set (west g i) in
-    let e = place_at_most_one set (east g i) in
-    let s = place_at_most_one set (south g i) in
-    north_in_set set (north g i) (omega arith)
+north_of_four g set i l = north_in_set set (north g i) (omega (
+  arith,
+  flow_four g (indicator set) i,
+  place_at_most_one set (west g i),
+  place_at_most_one set (east g i),
+  place_at_most_one set (south g i),
+))

@@ -1,6 +1,7 @@
 -- Topplings settle the pile if they leave at most 3 at each site, and no forbidden set of sites that have toppled.
-use Rattle.std.proofs.Common.{ℕ, zero, suc, cond, eqb, ◌≡◌, ◌+◌, ◌-◌, ◌*◌, ◌<◌, ◌≤◌, refl, ap, arith, ⊎_elim}
-use Rattle.std.proofs.lemmas.Bool.{cases_eq, cases_lt, eq-eqb, ne_eqb, eqb-true}
+use Rattle.std.proofs.Common.{ℕ, zero, suc, cond, eqb, ◌≡◌, ◌+◌, ◌-◌, ◌*◌, ◌<◌, ◌≤◌, inl, inr, refl, ap, arith, ⊎_elim}
+use Rattle.std.proofs.lemmas.Bool.{cases_eq, cases_lt, eq-eqb, eqb-true}
+use Rattle.std.proofs.lemmas.Bool.Decides.{nat_tests}
 use Rattle.std.proofs.Math.Nat.{mul-le-mul_left}
 use Rattle.sand_model.specs.Forbidden.{IsForbidden, IsTight}
 use Rattle.sand_model.specs.Grid.{Grid, sites}
@@ -10,27 +11,13 @@ use Rattle.sand_model.proofs.Sandpile.{flow_ones}
 
 pub greatest : (n : ℕ) (p : ℕ → ℕ) → 0 < n → (k : ℕ) × (k < n) × ((i : ℕ) → i < n → p i ≤ p k)
 greatest zero p l = absurd (omega arith)
-greatest (suc zero) p l = (0, omega arith, λ i m. let e : i ≡ 0 = omega arith in let same = ap p e in omega arith)
+greatest (suc zero) p l = (0, omega arith, λ i m. let e : i ≡ 0 = omega arith in omega (arith, ap p e))
 greatest (suc (suc n)) p l =
     let before = greatest (suc n) p (omega arith) in
-    ⊎_elim
-    (λ (less : p before.0 < p (suc n)). (
-      suc n,
-      omega arith,
-      λ i m.
-          ⊎_elim (λ (low : i < suc n). let le = before.2 i low in omega arith)
-          (λ (last : suc n ≤ i). let e : i ≡ suc n = omega arith in let same = ap p e in omega arith)
-          (cases_lt i (suc n)),
-    ))
-    (λ (more : p (suc n) ≤ p before.0). (
-      before.0,
-      (let l = before.1 in omega arith),
-      λ i m.
-          ⊎_elim (λ (low : i < suc n). before.2 i low)
-          (λ (last : suc n ≤ i). let e : i ≡ suc n = omega arith in let same = ap p e in omega arith)
-          (cases_lt i (suc n)),
-    ))
-    (cases_lt (p before.0) (p (suc n)))
+    elim (cases_lt (p before.0) (p (suc n))) [
+      | inl less ↦ (suc n, omega arith, λ i m. grind (arith, before.2 i, cases_eq i (suc n)))
+      | inr more ↦ (before.0, omega (arith, before.1), λ i m. grind (arith, before.2 i, cases_eq i (suc n)))
+    ]
 
 -- if sites toppled p times too often or q times too rarely, the sites of the greatest p are forbidden
 pub top_is_forbidden : (g : Grid) (t p q : ℕ → ℕ) (k : ℕ)
@@ -45,14 +32,7 @@ top_is_forbidden g t p q k balance apart inside top some = record {
       let none = apart i (omega arith) in
       let e = balance i l in
       let most = flow_le g p (λ j. (p k - 1) * 1 + cond (eqb (p j) (p k)) 1 0)
-      (λ j m.
-      let le = top j m in
-      ⊎_elim
-      (λ (same : p j ≡ p k). let test = eq-eqb (p j) (p k) same in rw test (omega arith))
-      (λ (ne : p j ≡ p k → ⊥).
-      let test = ne_eqb (p j) (p k) ne in rw test (let strict : p j < p k = grind arith in omega arith))
-      (cases_eq (p j) (p k)))
-      i l in
+      (λ j m. grind (arith, nat_tests, top j m)) i l in
       let split = flow-add g (λ j. (p k - 1) * 1) (λ j. cond (eqb (p j) (p k)) 1 0) i in
       let scaled = flow-scale g (p k - 1) (λ j. 1) i in
       let four = flow_ones g i in
@@ -63,13 +43,14 @@ top_is_forbidden g t p q k balance apart inside top some = record {
 
 excess : (g : Grid) (s u w t : ℕ → ℕ) → IsToppled g s u t → Stabilises g s w → (i : ℕ) → i < sites g
     → t i + 4 * (u i - w i) + flow g (λ j. w j - u j) i ≤ 3 + 4 * (w i - u i) + flow g (λ j. u j - w j) i
-excess g s u w t done stable i l =
-    let one = done.balance i l in
-    let two = stable.at_most_three i l in
-    let up = flow-add g u (λ j. w j - u j) i in
-    let down = flow-add g w (λ j. u j - w j) i in
-    let same = flow_same g (λ j. u j + (w j - u j)) (λ j. w j + (u j - w j)) (λ j m. omega arith) i l in
-    omega arith
+excess g s u w t done stable i l = omega (
+  arith,
+  done.balance i l,
+  stable.at_most_three i l,
+  flow-add g u (λ j. w j - u j) i,
+  flow-add g w (λ j. u j - w j) i,
+  flow_same g (λ j. u j + (w j - u j)) (λ j. w j + (u j - w j)) (λ j m. omega arith) i l,
+)
 
 never_above : (g : Grid) (s u w t : ℕ → ℕ) → IsToppled g s u t
     → IsTight g t u → Stabilises g s w → (i : ℕ) → i < sites g → u i ≤ w i
@@ -89,7 +70,7 @@ pub settled_if_tight : (g : Grid) (s u t : ℕ → ℕ) → IsToppled g s u t �
 settled_if_tight g s u t done low tight = record {
   toppled = done;
   odometer = record {
-    stabilises = record { at_most_three = λ i l. let e = done.balance i l in let three = low.low i l in omega arith };
+    stabilises = record { at_most_three = λ i l. omega (arith, done.balance i l, low.low i l) };
     least = λ w stable. never_above g s u w t done tight stable;
   };
 }
