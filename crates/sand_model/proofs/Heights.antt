@@ -1,12 +1,12 @@
 -- Lists of heights, one for each site.
-use Rattle.std.proofs.Common.{ℕ, zero, suc, ◌≡◌, ◌+◌, ◌-◌, ◌*◌, ◌<◌, ◌≤◌, refl, sym, ◌∙◌, ap, arith, List, [], ◌∷◌, length, sum, Option, None, get_or, ⊎_elim}
+use Rattle.std.proofs.Common.{ℕ, zero, suc, ◌≡◌, ◌+◌, ◌-◌, ◌*◌, ◌<◌, ◌≤◌, refl, sym, ◌∙◌, ap, arith, List, [], ◌∷◌, length, sum, Option, None, get_or}
 use Rattle.std.proofs.Math.ListN.{set}
-use Rattle.std.proofs.lemmas.Bool.{cases_eq, eq-eqb}
+use Rattle.std.proofs.lemmas.Bool.Decides.{nat_tests}
 use Rattle.std.proofs.lemmas.List.{get_or-set_same, get_or-set_other}
 use Rattle.std.proofs.lemmas.List.Sums.{sum_by-cons}
 use Rattle.sand_model.specs.Grid.{Grid, sites, places, missing}
-use Rattle.sand_model.specs.Sand.{sum_below, one_at, value_at, grains, lost, IsToppled}
-use Rattle.sand_model.proofs.SumsBelow.{sum_below-one_at, one_at_other}
+use Rattle.sand_model.specs.Sand.{sum_below, flow, one_at, value_at, grains, lost, IsToppled}
+use Rattle.sand_model.proofs.SumsBelow.{sum_below-one_at}
 use Rattle.sand_model.proofs.Flow.{four_places, flow-scale}
 use Rattle.sand_model.proofs.Sandpile.{laplacian_sum}
 
@@ -29,26 +29,30 @@ sum_is_grains g xs e = sum_is_sum_below xs ∙ ap (λ n. sum_below n (λ i. get_
 pub get_or-written : (u : List ℕ) (i v j : ℕ) → i < length u
     → get_or (set u i v) j 0 + get_or u i 0 * one_at i j ≡ get_or u j 0 + v * one_at i j
 get_or-written u i v j inside =
-    ⊎_elim
-    (λ (same : i ≡ j).
-    let one : one_at i j ≡ 1 = rw (eq-eqb i j same) in
-    let old = ap (λ k. get_or u i 0 * k) one in
-    let new = ap (λ k. v * k) one in
-    let here : get_or (set u i v) j 0 ≡ v = rw (← same) (get_or-set_same u i v 0 inside) in
-    let there = ap (λ k. get_or u k 0) same in
-    omega arith)
-    (λ (ne : i ≡ j → ⊥).
-    let none = one_at_other i j ne in
-    let old = ap (λ k. get_or u i 0 * k) none in
-    let new = ap (λ k. v * k) none in
-    let kept = get_or-set_other u i j v 0 (λ e. ne (sym e)) in
-    omega arith)
-    (cases_eq i j)
+    let other = get_or-set_other u i j v 0 in
+    grind (arith, nat_tests, get_or-set_same u i v 0 inside)
 
 -- each entry after k is added to one of them
 pub counted : (i k : ℕ) (u v : List ℕ) → i < length u → v ≡ set u i (get_or u i 0 + k) → (j : ℕ)
     → get_or v j 0 ≡ get_or u j 0 + k * one_at i j
 counted i k u v inside e j = let all = get_or-written u i (get_or u i 0 + k) j inside in rw e (omega arith)
+
+-- k topplings of one site take from it what they give to its neighbours
+pub toppled_times : (g : Grid) (i k : ℕ) (h q : List ℕ)
+    → i < sites g → length h ≡ sites g → 4 * k ≤ get_or h i 0
+    → ((j : ℕ) → j < sites g → get_or q j 0 ≡ get_or (set h i (get_or h i 0 - 4 * k)) j 0 + k * flow g (one_at i) j)
+    → IsToppled g (λ j. get_or h j 0) (λ j. k * one_at i j) (λ j. get_or q j 0)
+toppled_times g i k h q inside each high gives = record {
+  balance = λ j l.
+      let rest : get_or h i 0 - 4 * k + 4 * k ≡ get_or h i 0 = omega arith in
+      omega (
+        arith,
+        gives j l,
+        flow-scale g k (one_at i) j,
+        get_or-written h i (get_or h i 0 - 4 * k) j (omega arith),
+        ap (λ m. m * one_at i j) rest,
+      );
+}
 
 -- a site that gave t grains to each of its places toppled t times
 pub spread_toppled : (g : Grid) (i t : ℕ) (h k : List ℕ) (ps : List (Option ℕ))
@@ -57,18 +61,8 @@ pub spread_toppled : (g : Grid) (i t : ℕ) (h k : List ℕ) (ps : List (Option 
     + t * value_at (λ m. one_at m j) (get_or ps 0 None) + t * value_at (λ m. one_at m j) (get_or ps 1 None)
     + t * value_at (λ m. one_at m j) (get_or ps 2 None) + t * value_at (λ m. one_at m j) (get_or ps 3 None))
     → IsToppled g (λ j. get_or h j 0) (λ j. t * one_at i j) (λ j. get_or k j 0)
-spread_toppled g i t h k ps e l len high after = record {
-  balance = λ j m.
-      let parts = ap (λ q. t * q) (four_places g i j ps e l m) in
-      let rest : get_or h i 0 - 4 * t + 4 * t ≡ get_or h i 0 = omega arith in
-      let taken = ap (λ q. q * one_at i j) rest in
-      omega (
-        arith,
-        flow-scale g t (one_at i) j,
-        after j,
-        get_or-written h i (get_or h i 0 - 4 * t) j (omega arith),
-      );
-}
+spread_toppled g i t h k ps e l len high after = toppled_times g i t h k l len high
+    (λ j m. omega (arith, after j, ap (λ q. t * q) (four_places g i j ps e l m)))
 
 pub toppled_once : (g : Grid) (i : ℕ) (h k : List ℕ)
     → IsToppled g (λ j. get_or h j 0) (λ j. 1 * one_at i j) (λ j. get_or k j 0)

@@ -1,5 +1,5 @@
 -- Numbers that join a list when they begin to pass a test.
-use Rattle.std.proofs.Common.{ℕ, Bool, true, false, cond, not, ◌&&◌, List, [], ◌∷◌, ◌++◌, ◌≡◌, ◌≢◌, ◌+◌, ◌<◌, ◌≤◌, length, drop, get_or, append_assoc, length-append, refl, sym, ◌∙◌, ap, subst, arith, ⊎_elim}
+use Rattle.std.proofs.Common.{ℕ, Bool, true, false, cond, not, ◌&&◌, List, [], ◌∷◌, ◌++◌, ◌≡◌, ◌≢◌, ◌+◌, ◌<◌, ◌≤◌, length, drop, get_or, append_assoc, length-append, refl, sym, ◌∙◌, ap, subst, arith, inl, inr}
 use Rattle.std.proofs.lemmas.Bool.{cases_Bool, cases_eq}
 use Rattle.std.proofs.lemmas.List.{append-nil, drop-append-le, get_or_append_left}
 use Rattle.sand_model.specs.Lists.{Lists}
@@ -12,19 +12,12 @@ pub queued : {n : ℕ} {p q : ℕ → Bool} {k : ℕ} {joins : Bool} (list : Lis
     → ((j : ℕ) → j < n → j ≢ k → p j ≡ q j) → (p k ≡ true → q k ≡ true) → joins ≡ (not (p k) && q k)
     → Lists n p list → Lists n q (cond joins (list ++ k ∷ []) list)
 queued {n} {p} {q} {k} {joins} list inside others keeps is all =
-    let stays : p k ≡ q k → Lists n q list = λ e. lists_same n p q list
-    (λ j l. ⊎_elim (λ (at : j ≡ k). ap p at ∙ e ∙ ap q (sym at)) (λ (ne : j ≡ k → ⊥). others j l ne) (cases_eq j k)) all in
-    ⊎_elim
-    (λ (was : p k ≡ true). let now = keeps was in
-    let no : joins ≡ false = is ∙ rw was refl in rw no (stays (was ∙ sym now)))
-    (λ (out : p k ≡ false).
-    ⊎_elim
-    (λ (now : q k ≡ true).
-    let yes : joins ≡ true = is ∙ rw (out, now) refl in rw yes (lists_push n p q list k all inside out now others))
-    (λ (still : q k ≡ false).
-    let no : joins ≡ false = is ∙ rw (out, still) refl in rw no (stays (out ∙ sym still)))
-    (cases_Bool (q k)))
-    (cases_Bool (p k))
+    let was = cases_Bool (p k) in
+    let now = cases_Bool (q k) in
+    elim (cases_Bool joins) [
+      | inl joined ↦ rw joined (lists_push n p q list k all inside (grind arith) (grind arith) others)
+      | inr kept ↦ rw kept (lists_same n p q list (λ j l. grind (arith, others j l, cases_eq j k)) all)
+    ]
 
 at_end : (joins : Bool) (list : List ℕ) (k : ℕ) → cond joins (list ++ k ∷ []) list ≡ list ++ cond joins (k ∷ []) []
 at_end true list k = refl

@@ -1,6 +1,7 @@
 -- Sums over the numbers below a bound.
-use Rattle.std.proofs.Common.{ℕ, zero, suc, ◌≡◌, ◌+◌, ◌*◌, ◌<◌, ◌≤◌, refl, sym, ◌∙◌, ap, arith, ⊎_elim}
-use Rattle.std.proofs.lemmas.Bool.{cases_eq, eq-eqb, ne_eqb}
+use Rattle.std.proofs.Common.{ℕ, zero, suc, ◌≡◌, ◌+◌, ◌*◌, ◌<◌, ◌≤◌, refl, sym, ◌∙◌, ap, arith}
+use Rattle.std.proofs.lemmas.Bool.{eq-eqb, ne_eqb}
+use Rattle.std.proofs.lemmas.Bool.Decides.{nat_tests}
 use Rattle.sand_model.specs.Sand.{sum_below, one_at}
 
 pub sum_below_same : (n : ℕ) (f h : ℕ → ℕ) → ((i : ℕ) → i < n → f i ≡ h i) → sum_below n f ≡ sum_below n h
@@ -71,20 +72,10 @@ pub sum_below-one_at : (n k : ℕ) (f : ℕ → ℕ) → k < n → sum_below n (
 unfolding sum_below
 sum_below-one_at zero k f l = absurd (omega arith)
 sum_below-one_at (suc n) k f l =
-    ⊎_elim (λ (e : k ≡ n).
-    let below = sum_below-one_at_past n k f (omega arith) in
-    let here : one_at k n ≡ 1 = rw (eq-eqb k n e) in
-    let same = ap f e in
-    rw (below, here) (omega arith))
-    (λ (ne : k ≡ n → ⊥).
-    let less : k < n = grind arith in
-    let below = sum_below-one_at n k f less in
-    let here : one_at k n ≡ 0 = one_at_other k n ne in
-    rw (below, here) (omega arith))
-    (cases_eq k n)
+    let past = sum_below-one_at_past n k f in
+    let below = sum_below-one_at n k f in
+    let same = ap f {x = k} {y = n} in
+    grind (arith, nat_tests)
 
 pub one_at_comm : (k j : ℕ) → one_at k j ≡ one_at j k
-one_at_comm k j =
-    ⊎_elim (λ (e : k ≡ j). rw (eq-eqb k j e, eq-eqb j k (sym e)))
-    (λ (ne : k ≡ j → ⊥). one_at_other k j ne ∙ sym (one_at_other j k (λ e. ne (sym e))))
-    (cases_eq k j)
+one_at_comm k j = grind (arith, nat_tests)

@@ -71,13 +71,16 @@ pub grains_after : {r q : SettledView} {site : ℕ} → IsPaid r → site < site
     → sum q.pile.heights + q.lost ≡ sum r.pile.heights + r.lost + 1
 grains_after {r} {q} {site} paid inside taken =
     let g = r.pile.grid in
-    let all = laplacian_sum g (λ j. height_of r.pile j + one_at site j) (topplings_between r q) (height_of q.pile)
-    taken.settled.toppled in
-    let both = sum_below-add (sites g) (height_of r.pile) (one_at site) in
-    let one = one_grain g site inside in
-    let first = sum_is_grains g r.pile.heights paid.heights_each in
-    let last = sum_is_grains g q.pile.heights taken.heights_each in
-    omega (arith, taken.more_lost)
+    omega (
+      arith,
+      laplacian_sum g (λ j. height_of r.pile j + one_at site j) (topplings_between r q) (height_of q.pile)
+          taken.settled.toppled,
+      sum_below-add (sites g) (height_of r.pile) (one_at site),
+      one_grain g site inside,
+      sum_is_grains g r.pile.heights paid.heights_each,
+      sum_is_grains g q.pile.heights taken.heights_each,
+      taken.more_lost,
+    )
 
 topplings_after : {r q : SettledView} {site : ℕ} → r.topplings ≡ topplings r.pile.grid (odometer_of r)
     → TakesGrain r site q → q.topplings ≡ topplings r.pile.grid (odometer_of q)

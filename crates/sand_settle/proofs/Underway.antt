@@ -1,5 +1,5 @@
 -- A pile that is being settled, turn by turn.
-use Rattle.std.proofs.Common.{ℕ, ◌≡◌, ◌+◌, ◌*◌, ◌^◌, ◌<◌, ◌≤◌, arith, List, length, replicate, sum, get_or, ⊎_elim}
+use Rattle.std.proofs.Common.{ℕ, ◌≡◌, ◌+◌, ◌*◌, ◌^◌, ◌<◌, ◌≤◌, arith, List, length, replicate, sum, get_or, inl, inr}
 use Rattle.std.proofs.lemmas.Bool.{cases_lt}
 use Rattle.std.proofs.lemmas.List.{get_or-replicate, get_or_past, length-replicate}
 use Rattle.sand_model.specs.Grid.{Grid, IsGrid, sites}
@@ -48,11 +48,10 @@ sum_falls {g} h k lh lk advances =
 
 -- a list of zeros is 0 everywhere
 pub zero_at : (n j : ℕ) (u : List ℕ) → u ≡ replicate n 0 → get_or u j 0 ≡ 0
-zero_at n j u zeros =
-    ⊎_elim
-    (λ (less : j < n). rw zeros (get_or-replicate {A = ℕ} n j 0 0 less))
-    (λ (past : n ≤ j). rw zeros (get_or_past (replicate n 0) j 0 (let e = length-replicate {A = ℕ} n 0 in omega arith)))
-    (cases_lt j n)
+zero_at n j u zeros = rw zeros elim (cases_lt j n) [
+  | inl less ↦ get_or-replicate {A = ℕ} n j 0 0 less
+  | inr past ↦ get_or_past (replicate n 0) j 0 (omega (arith, length-replicate {A = ℕ} n 0))
+]
 
 -- at the start of a settling the topplings to come are few
 pub few_at_first : (g : Grid) (u : ℕ → ℕ) (h : List ℕ) → IsGrid g

@@ -63,9 +63,8 @@ overflow_add-record c =
 
 pub overflow_add-record-2 : goal.overflow_add-record-2
 overflow_add-record-2 c =
-    let paid = (all (goal.at.overflow_add-record-2 c).After-drop_into-avalanche).paid in
     let gone = ap (λ (r : SettledView). r.lost) c.settled.view_is in
-    omega (arith, paid.limit)
+    omega (arith, (all (goal.at.overflow_add-record-2 c).After-drop_into-avalanche).paid.limit)
 
 pub returns-clause-tiled : goal.returns-clause-tiled
 returns-clause-tiled c =
@@ -98,5 +97,4 @@ invariant_of-record c =
 pub returns-clause-avalanche : goal.returns-clause-avalanche
 returns-clause-avalanche c =
     let at = (goal.at.returns-clause-avalanche c).After-drop_into-avalanche in
-    let set_off = (all at).avalanche in
-    rw (odometer_is at) set_off
+    rw (odometer_is at) (all at).avalanche

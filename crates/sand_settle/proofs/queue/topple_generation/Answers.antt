@@ -4,12 +4,11 @@ use Rattle.std.proofs.lemmas.List.{append-nil, length-append, length-set}
 use Rattle.std.proofs.lemmas.List.Sums.{get_or-le-sum_by, sum_by-set}
 use Rattle.sand_model.specs.Grid.{sites}
 use Rattle.sand_model.proofs.Bounds.{at_most_sum_below, sites_limit}
-use Rattle.sand_model.proofs.Heights.{counted}
+use Rattle.sand_model.proofs.Heights.{counted, toppled_times}
 use Rattle.sand_model.specs.Lists.{Lists}
 use Rattle.sand_model.proofs.Lists.{front_below, lists_length, lists_of}
 use Rattle.sand_model.proofs.IndexLists.{waiting_behind}
 use Rattle.sand_model.specs.IndexLists.{ListView}
-use Rattle.sand_settle.proofs.Spread.{toppled_times}
 use Rattle.sand_settle.specs.SiteLists.{may_topple}
 use Rattle.sand_settle.proofs.SiteLists.{front_is_high, others_wait, turn_of}
 use Rattle.sand_settle.proofs.Underway.{advance_more, advance_turn, sum_falls}
