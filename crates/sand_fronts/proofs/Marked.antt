@@ -1,6 +1,6 @@
 -- The sets of the sites that a drop has toppled.
-use Rattle.std.proofs.Common.{ℕ, cond, eqb, ltb, ◌≡◌, ◌+◌, ◌<◌, ◌≤◌, ◌∙◌, refl, ap, arith, ⊎_elim, sym}
-use Rattle.std.proofs.lemmas.Bool.{cases_lt, eq-eqb, ne_eqb, lt-ltb, le-ltb}
+use Rattle.std.proofs.Common.{ℕ, ltb, ◌≡◌, ◌+◌, ◌<◌, ◌∙◌, arith}
+use Rattle.std.proofs.lemmas.Bool.Decides.{nat_tests}
 use Rattle.sand_model.specs.Grid.{Grid, sites}
 use Rattle.sand_model.specs.Sand.{sum_below}
 use Rattle.sand_model.specs.Lists.{one_if}
@@ -12,19 +12,7 @@ use Rattle.sand_fronts.specs.Tiling.{tiles, on_tiles}
 use Rattle.sand_fronts.specs.Drops.{grown_on}
 use Rattle.sand_fronts.specs.Marking.{in_sets, AreMarked}
 use Rattle.sand_fronts.proofs.Sums.{sum_on_tiles}
-use Rattle.sand_fronts.proofs.Counted.{sum_less_one, none_of_none}
 use Rattle.sand_fronts.proofs.OnTiles.{on_each}
-
--- ---- the sets are taken one by one
-
-pub set_less : (n : ℕ) (x y : ℕ → ℕ) (k : ℕ) → ((i : ℕ) → y i ≡ cond (eqb i k) 0 (x i)) → k < n
-    → sum_below 64 (bit (x k)) + in_sets n y ≡ in_sets n x
-set_less n x y k each less =
-    sum_less_one n k (λ m. sum_below 64 (bit (x m))) (λ m. sum_below 64 (bit (y m))) less
-    (ap (λ w. sum_below 64 (bit w)) (each k ∙ ap (λ b. cond b 0 (x k)) (eq-eqb k k refl)) ∙ none_of_none)
-    (λ m ne. ap (λ w. sum_below 64 (bit w)) (each m ∙ ap (λ b. cond b 0 (x m)) (ne_eqb m k ne)))
-
--- ---- what the sets are
 
 -- a place is marked if and only if it is a site that has toppled
 pub marked_word : (g : Grid) (c d : ℕ → Count) (a b : ℕ → ℕ) (m p : ℕ)
@@ -32,16 +20,12 @@ pub marked_word : (g : Grid) (c d : ℕ → Count) (a b : ℕ → ℕ) (m p : �
     → ((k q : ℕ) → q < 64 → counted (d k) q ≡ counted (c k) q + on_tiles g (grown_on g c d) k q)
     → bit (b m) p ≡ on_tiles g (λ j. one_if (ltb 0 (grown_on g c d j))) m p
 marked_word g c d a b m p low marked none counts =
-    let none_before : bit (a m) p ≡ 0 = ap (λ w. bit w p) (none m) ∙ bit_none p in
+    let before : bit (a m) p ≡ 0 = rw none (bit_none p) in
     let most = marked.no_other m p low in
-    let some : counted (c m) p < counted (d m) p → bit (b m) p ≡ 1 = marked.new m p low in
+    let some = marked.new m p low in
     on_each g m p (λ (r : (ℕ → ℕ) → ℕ). counted (d m) p ≡ counted (c m) p + r (grown_on g c d)
     → bit (b m) p ≡ r (λ j. one_if (ltb 0 (grown_on g c d j)))) low
-    (λ j l grown. ⊎_elim
-    (λ (more : 0 < grown_on g c d j). some (omega arith) ∙ sym (ap one_if (lt-ltb 0 (grown_on g c d j) more)))
-    (λ (none : grown_on g c d j ≤ 0). let z = ap one_if (le-ltb 0 (grown_on g c d j) none) in omega arith)
-    (cases_lt 0 (grown_on g c d j)))
-    (λ grown. omega arith) (counts m p low)
+    (λ j l grown. grind (arith, nat_tests)) (λ grown. omega arith) (counts m p low)
 
 -- so the sets have as many places as sites have toppled
 pub area_is : (g : Grid) (v b : ℕ → ℕ) → ((m p : ℕ) → p < 64 → bit (b m) p ≡ on_tiles g v m p)

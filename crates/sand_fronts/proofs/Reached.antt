@@ -97,12 +97,11 @@ reads_more {g} {s} {corner} {set} {rest} {next} {reach} {far} {place} d now befo
       (cases_lt far d);
 }
 
-pub reads_all : {g : Grid} {s corner : Spot} {set rest reach far : ℕ}
-    → Reads g s corner set rest reach far → ((p : ℕ) → bit rest p ≡ 0)
-    → IsReachedFrom g s corner set reach far
-reads_all {g} {s} {corner} {set} {rest} {reach} {far} before none = record {
+pub reads_all : {g : Grid} {s corner : Spot} {set rest reach far : ℕ} → Reads g s corner set rest reach far
+    → rest ≡ 0 → IsReachedFrom g s corner set reach far
+reads_all before none = record {
   grows = before.grows;
-  within = λ p low is. before.done p low is (none p);
+  within = λ p low is. before.done p low is (rw none (bit_none p));
   reached = before.reached;
 }
 

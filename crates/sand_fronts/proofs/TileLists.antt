@@ -1,7 +1,8 @@
 -- Tiles that join a list when places in them become due.
-use Rattle.std.proofs.Common.{ℕ, Bool, true, cond, ltb, eqb, not, ◌&&◌, List, [], ◌∷◌, ◌++◌, ◌≡◌, ◌+◌, ◌%◌, ◌^◌, ◌<◌, ◌≤◌, length, refl, sym, ◌∙◌, ap, subst, arith, ⊎_elim}
+use Rattle.std.proofs.Common.{ℕ, cond, ltb, eqb, not, ◌&&◌, List, [], ◌∷◌, ◌++◌, ◌≡◌, ◌+◌, ◌%◌, ◌^◌, ◌<◌, length, refl, sym, ◌∙◌, ap, subst, arith}
 use Rattle.std.proofs.Math.ListN.{set}
-use Rattle.std.proofs.lemmas.Bool.{cases_lt, lt-ltb, le-ltb, ltb-true, eq-eqb, ne_eqb}
+use Rattle.std.proofs.lemmas.Bool.{eq-eqb, ne_eqb}
+use Rattle.std.proofs.lemmas.Bool.Decides.{nat_tests}
 use Rattle.sand_model.specs.IndexLists.{ListView, Joins}
 use Rattle.sand_model.proofs.IndexLists.{joins_if, joins_more}
 use Rattle.sand_tiles.specs.declared.tile.Tile.{Tile}
@@ -11,43 +12,23 @@ use Rattle.sand_fronts.specs.declared.sand.Sand.{Sand}
 use Rattle.sand_fronts.specs.Boards.{tiles_of, Gets}
 use Rattle.sand_fronts.proofs.Gained.{tile_set, tile_set_same, tile_set_other}
 
-is_zero : (a : ℕ) → eqb a 0 ≡ not (ltb 0 a)
-is_zero a = ⊎_elim
-    (λ (some : 0 < a). rw (ne_eqb a 0 (λ e. omega arith), lt-ltb 0 a some) refl)
-    (λ (none : a ≤ 0). rw (eq-eqb a 0 (omega arith), le-ltb 0 a none) refl)
-    (cases_lt 0 a)
-
--- a number was 0 and is not 0 now
-pub not_zero_first : (a b : ℕ) {x y : Bool} → x ≡ ltb 0 a → y ≡ ltb 0 b → (eqb a 0 && not (eqb b 0)) ≡ (not x && y)
-not_zero_first a b before after = ⊎_elim
-    (λ (some : 0 < b). rw (before, after, is_zero a, ne_eqb b 0 (λ e. omega arith), lt-ltb 0 b some) refl)
-    (λ (none : b ≤ 0). rw (before, after, is_zero a, eq-eqb b 0 (omega arith), le-ltb 0 b none) refl)
-    (cases_lt 0 b)
-
-pub not_zero_again : (a b : ℕ) {x y : Bool} → x ≡ ltb 0 a → y ≡ ltb 0 b → (0 < a → 0 < b) → x ≡ true → y ≡ true
-not_zero_again a b before after grows is = after ∙ lt-ltb 0 b (grows (ltb-true 0 a (sym before ∙ is)))
-
 -- a tile whose places become due joins the list if it did not wait before
 pub joins_one : (ts : List Tile) (k : ℕ) (x t : Tile) (l m : ListView) → k < length ts
     → x ≡ tile_at ts k → x.due < 2 ^ 64 → t.due < 2 ^ 64 → (0 < x.due → 0 < t.due)
     → m ≡ record l { items = cond (eqb x.due 0 && not (eqb t.due 0)) (l.items ++ k ∷ []) l.items }
     → Joins (length ts) 1 (waits (tile_at ts)) (waits (tile_at (set ts k t))) l m
 joins_one ts k x t l m inside read fits fits' grows is =
-    let a = x.due in
-    let b = t.due in
-    let before : waits (tile_at ts) k ≡ ltb 0 a =
-    ap (λ (y : Tile). ltb 0 (y.due % 2 ^ 64)) (sym read) ∙ ap (ltb 0) (let e : a % 2 ^ 64 ≡ a = omega arith in e) in
-    let after : waits (tile_at (set ts k t)) k ≡ ltb 0 b =
-    ap (λ (y : Tile). ltb 0 (y.due % 2 ^ 64)) (tile_set_same ts k k t inside refl)
-    ∙ ap (ltb 0) (let e : b % 2 ^ 64 ≡ b = omega arith in e) in
+    let before = ap (λ (y : Tile). y.due) read in
+    let after = ap (λ (y : Tile). y.due) (tile_set_same ts k k t inside refl) in
     joins_if {p = waits (tile_at ts)} {q = waits (tile_at (set ts k t))} inside
     (λ i y ne. ap (λ (z : Tile). ltb 0 (z.due % 2 ^ 64)) (sym (tile_set_other ts k i t ne)))
-    (not_zero_again a b before after grows) (not_zero_first a b before after) is
+    (grind (arith, nat_tests)) (grind (arith, nat_tests)) is
 
 -- one gain after another
-pub gets_more : {free : ℕ → ℕ} {a b : ℕ} {x y : ℕ → ℕ → ℕ} (z : ℕ → ℕ → ℕ) {s t u : Sand} → Gets free a x s t → Gets free b y t u
+pub gets_more : {free : ℕ → ℕ} {a b : ℕ} {x y : ℕ → ℕ → ℕ} (z : ℕ → ℕ → ℕ) {s t u : Sand}
+    → Gets free a x s t → Gets free b y t u
     → ((m p : ℕ) → p < 64 → x m p + y m p ≡ z m p) → Gets free (a + b) z s u
-gets_more {free} {a} {b} {x} {y} z {s} {t} {u} first second sums =
+gets_more {b = b} z {t = t} {u = u} first second sums =
     record {
       len = second.len ∙ first.len;
       gains = record {
@@ -56,13 +37,9 @@ gets_more {free} {a} {b} {x} {y} z {s} {t} {u} first second sums =
         each = λ m p low is few.
             let e = sums m p low in
             let one = first.gains.each m p low is (omega arith) in
-            let two = second.gains.each m p low is (omega arith) in
-            omega arith;
+            omega (arith, second.gains.each m p low is (omega arith));
         modulo = λ m p low.
-            let e = sums m p low in
-            let one = first.gains.modulo m p low in
-            let two = second.gains.modulo m p low in
-            omega arith;
+            omega (arith, sums m p low, first.gains.modulo m p low, second.gains.modulo m p low);
       };
       joins = joins_more first.joins
           (subst (λ n. Joins n b (waits (tiles_of t)) (waits (tiles_of u)) t.list u.list) first.len second.joins);
@@ -73,8 +50,7 @@ pub visited_waits : (ts : List Tile) (k m : ℕ) (t : Tile) → k < length ts �
     → but k (waits (tile_at ts)) m ≡ waits (tile_at (set ts k t)) m
 visited_waits ts k m t inside none =
     tile_set (λ i x. but k (waits (tile_at ts)) i ≡ ltb 0 (x.due % 2 ^ 64)) ts k t inside
-    (ap (λ b. not b && waits (tile_at ts) k) (eq-eqb k k refl) ∙ sym (ap (λ w. ltb 0 (w % 2 ^ 64)) none))
-    (λ i ne. ap (λ b. not b && waits (tile_at ts) i) (ne_eqb i k ne)) m
+    (rw (none, eq-eqb k k refl)) (λ i ne. rw (ne_eqb i k ne)) m
 
 -- the same for two tiles
 pub pair_waits : (ts : List Tile) (j k m : ℕ) (t u : Tile) → j < length ts → k < length (set ts j t)

@@ -1,8 +1,6 @@
-use Rattle.std.proofs.Common.{◌≡◌, w64, ◌∙◌, ap, arith}
+use Rattle.std.proofs.Common.{w64, arith}
 use Rattle.std.specs.Prelude.{bit_xor}
 use Rattle.std.specs.Int.{trailing_zeros}
-use Rattle.sand_tiles.specs.Places.{bit}
-use Rattle.sand_tiles.proofs.Bits.{bit_none}
 use Rattle.sand_fronts.proofs.Reached.{IsTaken, taken, fewer_left, reads_begin, reads_more, reads_all}
 use Rattle.sand_fronts.proofs.reach.reach_in.Goals as goal
 
@@ -24,5 +22,4 @@ places-preserved c = record {
 }
 
 pub returns : goal.returns
-returns c = reads_all c.places.invariant.reads
-    (λ p. ap (λ x. bit x p) (let e : c.places.rest ≡ 0 = omega (arith, c.places-test.false) in e) ∙ bit_none p)
+returns c = reads_all c.places.invariant.reads (omega (arith, c.places-test.false))

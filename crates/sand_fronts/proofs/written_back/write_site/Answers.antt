@@ -21,15 +21,6 @@ pub give-requires-4-clause-inside : goal.give-requires-4-clause-inside
 give-requires-4-clause-inside c =
     place_inside c.args.shape c.args.site _ 3 _ c.neighbours.ensures c.requires.site (omega (arith, c.requires.len.0))
 
-pub give-requires-2-clause-low : goal.give-requires-2-clause-low
-give-requires-2-clause-low c j = omega (arith, c.give.ensures.each j)
-
-pub give-requires-3-clause-low : goal.give-requires-3-clause-low
-give-requires-3-clause-low c j = omega (arith, c.give-2.ensures.each j)
-
-pub give-requires-4-clause-low : goal.give-requires-4-clause-low
-give-requires-4-clause-low c j = omega (arith, c.give-3.ensures.each j)
-
 pub returns-clause-follows : goal.returns-clause-follows
 returns-clause-follows c =
     let counts = counted c.args.site c.args.times c.args.odometer.now _
