@@ -152,30 +152,28 @@ counted_more first second = record {
 }
 
 -- the set of tile k is counted and marked, and the tile leaves the wave
-pub counted_one : (ts : List Tile) (c d : Counts) (k word : ℕ) (t : Tile) (marks : MarksView) → k < length ts
-    → AddsSet k word c d → IsCount (counts_of d k) → length marks.sets ≡ length d.marks.sets
-    → word ≡ (tile_at ts k).wave → t ≡ record (tile_at ts k) { wave = 0 }
-    → ((m : ℕ) → slice_index marks.sets m ≡ cond (eqb m k) (bit_or (marks_of d m) word) (marks_of d m))
-    → AreCounted ts (set ts k t) c (record d { marks = marks })
-counted_one ts c d k word t marks inside added sound marks_each read is marked =
-    let clear : IsClear t = λ p l. ap (λ (y : Tile). bit y.wave p) is ∙ bit_none p in
+pub counted_one : (ts : List Tile) (c d : Counts) (k : ℕ) (marks : MarksView) → k < length ts
+    → AddsSet k (tile_at ts k).wave c d → IsCount (counts_of d k) → length marks.sets ≡ length d.marks.sets
+    → ((m : ℕ) → slice_index marks.sets m
+    ≡ cond (eqb m k) (bit_or (marks_of d m) (tile_at ts k).wave) (marks_of d m))
+    → AreCounted ts (set ts k (record (tile_at ts k) { wave = 0 })) c (record d { marks = marks })
+counted_one ts c d k marks inside added sound marks_each marked =
+    let t : Tile = record (tile_at ts k) { wave = 0 } in
     record {
       tiles_each = length-set {A = Tile} ts k t;
       counts_each = added.counts_each;
       room = added.room;
       marks_each = marks_each ∙ ap (λ (x : MarksView). length x.sets) added.marks;
-      low = tile_set (λ m x. x.low ≡ (tile_at ts m).low) ts k t inside (ap (λ (x : Tile). x.low) is) (λ m ne. refl);
-      high = tile_set (λ m x. x.high ≡ (tile_at ts m).high) ts k t inside (ap (λ (x : Tile). x.high) is) (λ m ne. refl);
-      due = tile_set (λ m x. x.due ≡ (tile_at ts m).due) ts k t inside (ap (λ (x : Tile). x.due) is) (λ m ne. refl);
+      low = tile_set (λ m x. x.low ≡ (tile_at ts m).low) ts k t inside refl (λ m ne. refl);
+      high = tile_set (λ m x. x.high ≡ (tile_at ts m).high) ts k t inside refl (λ m ne. refl);
+      due = tile_set (λ m x. x.due ≡ (tile_at ts m).due) ts k t inside refl (λ m ne. refl);
       each = tile_set (λ m x. (p : ℕ) → p < 64 → counted (counts_of d m) p + bit x.wave p
           ≡ with_wave (tile_at ts) (counts_of c) m p) ts k t inside
-          (λ p l. let a = added.here p l in let e = ap (λ w. bit w p) read in let z = clear p l in omega arith)
-          (λ m ne p l. let a = added.others m p ne l in omega arith);
-      sound = λ before m. ⊎_elim
-          (λ (e : m ≡ k). subst (λ i. IsCount (counts_of d i)) (sym e) sound)
-          (λ (ne : m ≡ k → ⊥). added.others_sound m ne (before m))
-          (cases_eq m k);
-      clear = tile_set (λ m x. IsClear (tile_at ts m) → IsClear x) ts k t inside (λ was. clear) (λ m ne was. was);
+          (λ p l. omega (arith, added.here p l, bit_none p)) (λ m ne p l. omega (arith, added.others m p ne l));
+      sound = λ before m. ⊎_elim (λ (e : m ≡ k). rw e sound)
+          (λ (ne : m ≡ k → ⊥). added.others_sound m ne (before m)) (cases_eq m k);
+      clear =
+          tile_set (λ m x. IsClear (tile_at ts m) → IsClear x) ts k t inside (λ was p l. bit_none p) (λ m ne was. was);
       marked = marked_one (marks_of c) (slice_index marks.sets) added (rw added.marks at marked);
     }
 
@@ -234,20 +232,18 @@ AreNone c = (p : ℕ) → p < 64 → counted c p ≡ 0
 abbrev pub AreIn : (ℕ → Type 0) → List ℕ → ℕ → ℕ → Type 0
 AreIn P list from end = (m : ℕ) → P m ⊎ ((t : ℕ) × (from ≤ t) × (t < end) × (slice_index list t ≡ m))
 
+-- the first of them comes to have Q
 pub rest_in : (P Q : ℕ → Type 0) (k : ℕ) (list : List ℕ) (position end : ℕ) → AreIn P list position end
     → ((m : ℕ) → P m → Q m) → Q k → k ≡ slice_index list position → AreIn Q list (position + 1) end
-rest_in P Q k list position end listed still here is m = ⊎_elim
-    (λ (was : P m). inl (still m was))
+rest_in P Q k list position end listed still here is m = ⊎_elim (λ (was : P m). inl (still m was))
     (λ (at : (t : ℕ) × (position ≤ t) × (t < end) × (slice_index list t ≡ m)). ⊎_elim
-    (λ (now : at.0 ≡ position). inl (subst Q (is ∙ ap (slice_index list) (sym now) ∙ at.3) here))
-    (λ (later : at.0 ≡ position → ⊥). inr (at.0, (let a = at.1 in omega arith), at.2, at.3))
+    (λ (now : at.0 ≡ position). inl (rw (← at.3, now, ← is) here))
+    (λ (later : at.0 ≡ position → ⊥). inr (at.0, omega (arith, at.1), at.2, at.3))
     (cases_eq at.0 position))
     (listed m)
 
-pub none_in : (P : ℕ → Type 0) (list : List ℕ) (position end : ℕ) → AreIn P list position end → end ≤ position → (m : ℕ)
-    → P m
-none_in P list position end listed last m = ⊎_elim
-    (λ (was : P m). was)
-    (λ (at : (t : ℕ) × (position ≤ t) × (t < end) × (slice_index list t ≡ m)).
-    let a = at.1 in let b = at.2 in absurd (omega arith))
+pub none_in : (P : ℕ → Type 0) (list : List ℕ) (position end : ℕ) → AreIn P list position end → end ≤ position
+    → (m : ℕ) → P m
+none_in P list position end listed last m = ⊎_elim (λ (was : P m). was)
+    (λ (at : (t : ℕ) × (position ≤ t) × (t < end) × (slice_index list t ≡ m)). absurd (omega (arith, at.1, at.2)))
     (listed m)

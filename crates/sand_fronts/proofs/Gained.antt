@@ -90,12 +90,6 @@ gains_one free ts k t gain inside receives =
       modulo = λ m p low. (all m p low).2;
     }
 
-pub only_as : (k m p : ℕ) (f h : ℕ → ℕ) → f p ≡ h p → only k f m p ≡ only k h m p
-only_as k m p f h e = ⊎_elim
-    (λ (is : m ≡ k). only_same k m f p is ∙ e ∙ sym (only_same k m h p is))
-    (λ (ne : m ≡ k → ⊥). only_other k m f p ne ∙ sym (only_other k m h p ne))
-    (cases_eq m k)
-
 pub gains_from : {free : ℕ → ℕ} {τ τ' σ : ℕ → Tile} {a : ℕ → ℕ → ℕ} → ((m : ℕ) → τ m ≡ τ' m) → Gains free τ σ a
     → Gains free τ' σ a
 gains_from same gains = record {

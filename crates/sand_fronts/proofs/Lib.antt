@@ -16,7 +16,6 @@ pub mod OneGrain
 pub mod Filled
 pub mod NewPiles
 pub mod Marked
-pub mod MarkedTiles
 pub mod Reached
 pub mod OnPiles
 pub mod WrittenBack

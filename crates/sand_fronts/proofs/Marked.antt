@@ -1,18 +1,28 @@
--- The sets of the sites that a drop has toppled.
-use Rattle.std.proofs.Common.{ℕ, ltb, ◌≡◌, ◌+◌, ◌<◌, ◌∙◌, arith}
+-- The sets of the sites that a drop has toppled, and the list of the tiles whose sets are not empty.
+use Rattle.std.proofs.Common.{ℕ, ltb, ◌≡◌, ◌+◌, ◌<◌, ◌∙◌, arith, suc, cond, eqb, not, ◌&&◌, List, [], ◌∷◌, ◌++◌, ◌≤◌, inl, inr, length, take, get_or, refl, sym, ap, ⊎_elim}
 use Rattle.std.proofs.lemmas.Bool.Decides.{nat_tests}
+use Rattle.std.specs.Prelude.{slice_index}
+use Rattle.std.proofs.lemmas.Grind.{get_or_default_zero}
+use Rattle.std.proofs.Math.ListN.{set, get_or-eq_default}
+use Rattle.std.proofs.Math.Seq.{take-suc}
+use Rattle.std.proofs.lemmas.Bool.{cases_eq}
+use Rattle.std.proofs.lemmas.List.{take_all, get_or-set_same, get_or-set_other, length-set}
 use Rattle.sand_model.specs.Grid.{Grid, sites}
-use Rattle.sand_model.specs.Sand.{sum_below}
-use Rattle.sand_model.specs.Lists.{one_if}
-use Rattle.sand_model.proofs.SumsBelow.{sum_below_same}
+use Rattle.sand_model.specs.Sand.{sum_below, occurrences}
+use Rattle.sand_model.specs.Lists.{one_if, Lists}
+use Rattle.sand_model.proofs.SumsBelow.{sum_below_same, one_at_other}
+use Rattle.sand_model.proofs.Occurrences.{occurrences-cons}
+use Rattle.sand_model.proofs.Lists.{lists_shorter, listed, read_below}
+use Rattle.sand_model.proofs.IndexLists.{queued}
 use Rattle.sand_tiles.specs.Places.{bit}
 use Rattle.sand_tiles.specs.Counts.{Count, counted}
 use Rattle.sand_tiles.proofs.Bits.{bit_none}
 use Rattle.sand_fronts.specs.Tiling.{tiles, on_tiles}
 use Rattle.sand_fronts.specs.Drops.{grown_on}
-use Rattle.sand_fronts.specs.Marking.{in_sets, AreMarked}
+use Rattle.sand_fronts.specs.Marking.{in_sets, AreMarked, has_mark}
 use Rattle.sand_fronts.proofs.Sums.{sum_on_tiles}
 use Rattle.sand_fronts.proofs.OnTiles.{on_each}
+use Rattle.sand_fronts.proofs.Counted.{over_none, AreIn, none_in}
 
 -- a place is marked if and only if it is a site that has toppled
 pub marked_word : (g : Grid) (c d : ℕ → Count) (a b : ℕ → ℕ) (m p : ℕ)
@@ -34,3 +44,59 @@ area_is g v b each =
     sum_below_same (tiles g) (λ k. sum_below 64 (bit (b k))) (λ k. sum_below 64 (λ p. on_tiles g v k p))
     (λ k l. sum_below_same 64 (bit (b k)) (λ p. on_tiles g v k p) (λ p m. each k p m))
     ∙ sum_on_tiles g v
+
+-- ---- the list
+
+-- a tile joins the list when its first places are marked
+pub lists_marked : (ws list : List ℕ) (k x y : ℕ) → k < length ws → x ≡ slice_index ws k → (0 < x → 0 < y)
+    → Lists (length ws) (has_mark ws) list
+    → Lists (length (set ws k y)) (has_mark (set ws k y)) (cond (eqb x 0 && not (eqb y 0)) (list ++ k ∷ []) list)
+lists_marked ws list k x y inside read grows lists =
+    let now = get_or-set_same ws k y 0 inside in
+    rw length-set (queued {p = has_mark ws} {q = has_mark (set ws k y)} list inside
+    (λ i l ne. ap (ltb 0) (sym (get_or-set_other ws k i y 0 ne)))
+    (grind (arith, nat_tests)) (grind (arith, nat_tests)) lists)
+
+-- a tile that is read from the list has a set
+pub tile_below : (ws list : List ℕ) (position k : ℕ) → Lists (length ws) (has_mark ws) list → position < length list
+    → k ≡ get_or list position 0 → k < length ws
+tile_below ws list position k lists less is = read_below (length ws) (has_mark ws) list position k lists less
+    (is ∙ sym (get_or_default_zero list position k less))
+
+-- the last tile leaves the list when its set is taken
+pub lists_taken : (ws list : List ℕ) (k last : ℕ) → k < length ws → k ≡ slice_index list last → last + 1 ≡ length list
+    → Lists (length ws) (has_mark ws) list → Lists (length (set ws k 0)) (has_mark (set ws k 0)) (take last list)
+lists_taken ws list k last inside read is lists =
+    let whole : take last list ++ k ∷ [] ≡ list =
+    rw (read, ← take-suc list last 0 (omega arith)) (take_all (suc last) list (omega arith)) in
+    rw length-set (lists_shorter (length ws) (has_mark ws) (has_mark (set ws k 0)) (take last list) k (rw whole lists)
+    (ap (ltb 0) (get_or-set_same ws k 0 0 inside))
+    (λ j l ne. ap (ltb 0) (sym (get_or-set_other ws k j 0 0 ne))))
+
+turn_of : (xs : List ℕ) (i : ℕ) → 1 ≤ occurrences xs i → (t : ℕ) × (t < length xs) × (get_or xs t 0 ≡ i)
+turn_of [] i some = absurd (omega arith)
+turn_of (x ∷ xs) i some = ⊎_elim
+    (λ (e : x ≡ i). (0, omega arith, e))
+    (λ (ne : x ≡ i → ⊥).
+    let first = occurrences-cons x xs i in
+    let none = one_at_other x i ne in
+    let later = turn_of xs i (omega arith) in
+    (suc later.0, (let l = later.1 in omega arith), later.2))
+    (cases_eq x i)
+
+pub empty_or_listed : (ws list : List ℕ) → Lists (length ws) (has_mark ws) list
+    → AreIn (λ m. slice_index ws m ≡ 0) list 0 (length list)
+empty_or_listed ws list lists m = ⊎_elim (λ (none : slice_index ws m ≡ 0). inl none)
+    (λ (some : slice_index ws m ≡ 0 → ⊥).
+    let past : length ws ≤ m → slice_index ws m ≡ 0 = get_or-eq_default ws 0 in
+    let once = listed (length ws) (has_mark ws) list m lists (grind arith) (grind (arith, nat_tests)) in
+    let turn = turn_of list m (omega arith) in
+    inr (turn.0, omega arith, turn.1, turn.2))
+    (cases_eq (slice_index ws m) 0)
+
+-- with an empty list, all sets are empty
+pub all_empty : (n : ℕ) (ws list : List ℕ) → Lists (length ws) (has_mark ws) list → length list ≡ 0
+    → ((m : ℕ) → slice_index ws m ≡ 0) × (in_sets n (slice_index ws) ≡ 0)
+all_empty n ws list lists none =
+    let each = none_in (λ m. slice_index ws m ≡ 0) list 0 (length list) (empty_or_listed ws list lists) (omega arith) in
+    (each, over_none n (λ i p b. b) (slice_index ws) (λ i p. refl) (λ m p low. rw each (bit_none p)))

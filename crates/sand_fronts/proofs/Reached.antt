@@ -18,20 +18,17 @@ use Rattle.sand_fronts.specs.Reaching.{distance_within, spot_of, corner_of, IsRe
 use Rattle.sand_fronts.specs.Avalanches.{IsReached}
 use Rattle.sand_fronts.specs.Marking.{AreSites, AreToppled}
 use Rattle.sand_fronts.specs.Tiling.{tile_of, place_of, row_at, column_at, is_site, site_on}
-use Rattle.sand_fronts.proofs.OnTiles.{place_below, back_again, there_again, in_grid, at_on, on_place}
+use Rattle.sand_fronts.proofs.OnTiles.{place_below, back_again, there_again, in_grid, at_on, on_site}
 
 -- ---- bounds on the distance of a place of a tile
-
-columns_within : (x l c : ℕ) → c ≤ 7 → abs_diff x (l + c) ≤ max (abs_diff x l) (abs_diff x (l + 7))
-columns_within x l c few = omega arith
 
 pub within_farthest : (g : Grid) (s corner : Spot) (p across near down : ℕ) → p < 64
     → across ≡ max (abs_diff s.column corner.column) (abs_diff s.column (corner.column + 7))
     → down ≡ max (abs_diff s.row corner.row) (abs_diff s.row (corner.row + 7))
     → near ≡ cond (joins g.edge) (min across (g.width / 2)) across → distance_within g s corner p ≤ near + down
 within_farthest g s corner p across near down low wide tall is =
-    let a = columns_within s.column corner.column (p % 8) (omega arith) in
-    let b = columns_within s.row corner.row (p / 8) (omega arith) in
+    let a : abs_diff s.column (corner.column + p % 8) ≤ across = omega arith in
+    let b : abs_diff s.row (corner.row + p / 8) ≤ down = omega arith in
     grind arith
 
 -- ---- place by place
@@ -65,9 +62,7 @@ taken rest one some fits is =
 pub fewer_left : {rest next place : ℕ} → IsTaken rest next place → sum_below 64 (bit next) < sum_below 64 (bit rest)
 fewer_left {rest} {next} {place} gone =
     let same = sum_below_same 64 (λ p. bit next p + 1 * one_at place p) (bit rest) (λ p low. omega arith) in
-    let both = sum_below-add 64 (bit next) (λ p. 1 * one_at place p) in
-    let one = sum_below-one_at 64 place (λ p. 1) gone.inside in
-    omega arith
+    omega (arith, sum_below-add 64 (bit next) (λ p. 1 * one_at place p), sum_below-one_at 64 place (λ p. 1) gone.inside)
 
 -- the places of a set that are no longer in the rest have been read
 pub record Reads (g : Grid) (s corner : Spot) (set rest reach far : ℕ) : Type 0 where
@@ -87,12 +82,12 @@ reads_begin g s corner set reach = record {
 pub reads_more : {g : Grid} {s corner : Spot} {set rest next reach far place : ℕ} (d now : ℕ)
     → Reads g s corner set rest reach far → IsTaken rest next place
     → d ≡ distance_within g s corner place → now ≡ max far d → Reads g s corner set next reach now
-reads_more {g} {s} {corner} {set} {rest} {next} {reach} {far} {place} d now before gone there most = record {
-  within_set = λ p low. let a = before.within_set p low in let e = gone.each p low in omega arith;
-  grows = let a = before.grows in omega arith;
+reads_more {set = set} {far = far} {place = place} d now before gone there most = record {
+  within_set = λ p low. omega (arith, before.within_set p low, gone.each p low);
+  grows = omega (arith, before.grows);
   done = λ p low has none. let a = before.done p low has in grind (arith, nat_tests);
   reached = λ more. ⊎_elim
-      (λ (farther : far < d). let b = bit_le set place in (place, gone.inside, omega arith, omega arith))
+      (λ (farther : far < d). (place, gone.inside, omega (arith, bit_le set place), omega arith))
       (λ (not : d ≤ far). let old = before.reached (omega arith) in (old.0, old.1, old.2, omega arith))
       (cases_lt far d);
 }
@@ -164,34 +159,39 @@ distance_on g site k p is =
     ∙ ap (distance_between g (spot_of g site) (column_at g k p))
     (div-mul-add (row_at g k p) g.width (column_at g k p) wide)
 
-distance_at : (g : Grid) (site j k p : ℕ) → j < sites g → tile_of g j ≡ k → place_of g j ≡ p
-    → distance g site j ≡ distance_within g (spot_of g site) (corner_of g k) p
-distance_at g site j k p l tile place =
-    let b = back_again g j l in
-    let d = distance_on g site (tile_of g j) (place_of g j) b.0 in
-    cc
-
 -- a place is in the sets if and only if its site has toppled, so what is within reach of them is so for the sites
 pub all_within : (g : Grid) (site : ℕ) (v : ℕ → ℕ) {words : ℕ → ℕ} {reach : ℕ} → AreToppled g v words
     → IsReachedIn g (spot_of g site) words reach → (j : ℕ) → j < sites g → 0 < v j → distance g site j ≤ reach
-all_within g site v {words} {reach} each in_sets j l some =
-    let marked = each (tile_of g j) (place_of g j) (place_below g j) in
+all_within g site v {words} each in_sets j l some =
+    let k = tile_of g j in
+    let p = place_of g j in
+    let marked = each k p (place_below g j) in
     let at = at_on g (λ i. one_if (ltb 0 (v i))) j l in
-    let le = in_sets.within (tile_of g j) (place_of g j) (place_below g j) (grind (arith, nat_tests)) in
-    let there = distance_at g site j _ _ l refl refl in
-    omega arith
+    let back = back_again g j l in
+    omega (
+      arith,
+      in_sets.within k p (place_below g j) (grind (arith, nat_tests)),
+      distance_on g site k p back.0,
+      ap (distance g site) back.1,
+    )
 
-pub some_reached : (g : Grid) (site : ℕ) (v : ℕ → ℕ) {words : ℕ → ℕ} {reach : ℕ} → AreToppled g v words
-    → IsReachedIn g (spot_of g site) words reach → 0 < reach → IsReached g site v reach
-some_reached g site v {words} {reach} each in_sets far =
+-- the site that is reached
+farthest_site : (g : Grid) (site : ℕ) {words : ℕ → ℕ} {reach : ℕ} → AreSites g words
+    → IsReachedIn g (spot_of g site) words reach → 0 < reach → (m : ℕ) × (p : ℕ) × (p < 64) × (bit (words m) p ≡ 1)
+    × (is_site g m p ≡ true) × (site_on g m p < sites g) × (distance g site (site_on g m p) ≡ reach)
+farthest_site g site at in_sets far =
     let one = in_sets.reached far in
-    let m = one.0 in
-    let p = one.1 in
-    on_place g m p (λ (r : (ℕ → ℕ) → ℕ). bit (words m) p ≡ r (λ i. one_if (ltb 0 (v i))) → IsReached g site v reach)
-    one.2
-    (λ j l tile place is. (j, l, grind (arith, nat_tests), distance_at g site j m p l tile place ∙ one.4))
-    (λ no is. absurd (omega arith))
-    (each m p one.2)
+    let is = at one.0 one.1 one.2 one.3 in
+    let there = there_again g one.0 one.1 one.2 is in
+    (one.0, one.1, one.2, one.3, is, there.0, distance_on g site one.0 one.1 is ∙ one.4)
+
+pub some_reached : (g : Grid) (site : ℕ) (v : ℕ → ℕ) {words : ℕ → ℕ} {reach : ℕ} → AreSites g words
+    → AreToppled g v words → IsReachedIn g (spot_of g site) words reach → 0 < reach → IsReached g site v reach
+some_reached g site v at each in_sets far =
+    let one = farthest_site g site at in_sets far in
+    let marked = each one.0 one.1 one.2 in
+    let own = on_site g (λ i. one_if (ltb 0 (v i))) one.0 one.1 one.4 in
+    (site_on g one.0 one.1, one.5, grind (arith, nat_tests), one.6)
 
 -- ---- the reach fits into 32 bits
 
@@ -207,12 +207,7 @@ near g i j sides inside there =
 pub small_reach : (g : Grid) (site : ℕ) {words : ℕ → ℕ} {reach : ℕ} → IsGrid g → site < sites g → AreSites g words
     → IsReachedIn g (spot_of g site) words reach → reach < 2 ^ 32
 small_reach g site {words} {reach} sides inside at in_sets = ⊎_elim
-    (λ (far : 0 < reach).
-    let one = in_sets.reached far in
-    let is = at one.0 one.1 one.2 one.3 in
-    let there = there_again g one.0 one.1 one.2 is in
-    let n = near g site (site_on g one.0 one.1) sides inside there.0 in
-    let d = distance_on g site one.0 one.1 is in
-    omega arith)
+    (λ (far : 0 < reach). let one = farthest_site g site at in_sets far in
+    omega (arith, near g site (site_on g one.0 one.1) sides inside one.5))
     (λ (none : reach ≤ 0). omega arith)
     (cases_lt 0 reach)

@@ -25,35 +25,20 @@ flow_none g u j none l =
     omega arith
 
 -- v of the site j at its own place, and 0 at each other
-here : Grid → (ℕ → ℕ) → ℕ → ℕ → ℕ → ℕ
-here g v j k p = v j * one_at (place_of g j) p * one_at (tile_of g j) k
-
-turned : (a b c : ℕ) → a * b * c ≡ a * c * b
-turned a b c = grind arith
+abbrev here : Grid → (ℕ → ℕ) → ℕ → ℕ → ℕ → ℕ
+here g v j k p = v j * one_at (tile_of g j) k * one_at (place_of g j) p
 
 one_place : (g : Grid) (v : ℕ → ℕ) (n j : ℕ) → tile_of g j < n
     → sum_below n (λ k. sum_below 64 (λ p. here g v j k p)) ≡ v j
-unfolding here
 one_place g v n j l =
-    sum_below_same n (λ k. sum_below 64 (λ p. v j * one_at (place_of g j) p * one_at (tile_of g j) k))
-    (λ k. v j * one_at (tile_of g j) k)
-    (λ k m. sum_below_same 64
-    (λ p. v j * one_at (place_of g j) p * one_at (tile_of g j) k)
-    (λ p. v j * one_at (tile_of g j) k * one_at (place_of g j) p)
-    (λ p x. turned (v j) (one_at (place_of g j) p) (one_at (tile_of g j) k))
-    ∙ sum_below-one_at 64 (place_of g j) (λ p. v j * one_at (tile_of g j) k) (place_below g j))
+    sum_below_same n (λ k. sum_below 64 (λ p. here g v j k p)) (λ k. v j * one_at (tile_of g j) k)
+    (λ k m. sum_below-one_at 64 (place_of g j) (λ p. v j * one_at (tile_of g j) k) (place_below g j))
     ∙ sum_below-one_at n (tile_of g j) (λ k. v j) l
 
 one_site : (g : Grid) (v : ℕ → ℕ) (k p : ℕ) → p < 64 → sum_below (sites g) (λ j. here g v j k p) ≡ on_tiles g v k p
-unfolding here
 one_site g v k p low =
-    sum_below_same (sites g) (λ j. v j * one_at (place_of g j) p * one_at (tile_of g j) k)
-    (λ j. v j * on_tiles g (one_at j) k p)
-    (λ j l.
-    let e = ap (λ x. v j * x) (own_place g j k p low l) in
-    let t : v j * one_at (place_of g j) p * one_at (tile_of g j) k
-    ≡ v j * (one_at (tile_of g j) k * one_at (place_of g j) p) = grind arith in
-    t ∙ sym e)
+    sum_below_same (sites g) (λ j. here g v j k p) (λ j. v j * on_tiles g (one_at j) k p)
+    (λ j l. rw (own_place g j k p low l) (grind arith))
     ∙ on_each g k p (λ (r : (ℕ → ℕ) → ℕ). sum_below (sites g) (λ j. v j * r (one_at j)) ≡ r v) low
     (λ s l. sum_below_same (sites g) (λ j. v j * one_at j s) (λ j. v j * one_at s j)
     (λ j m. ap (λ x. v j * x) (one_at_comm j s))

@@ -18,7 +18,7 @@ use Rattle.sand_tiles.specs.Places.{bit, IsReady, Visits}
 use Rattle.sand_tiles.proofs.Bits.{bit_le, bit_none}
 use Rattle.sand_tiles.proofs.Moves.{cut}
 use Rattle.sand_fronts.specs.declared.sides.Beside.{Beside}
-use Rattle.sand_fronts.specs.Tiling.{tiles, tile_of, place_of, site_on, on_tiles}
+use Rattle.sand_fronts.specs.Tiling.{tiles, tile_of, place_of, site_on}
 use Rattle.sand_fronts.specs.Waves.{at_site, toppled, only, put, tile_at, AreOpen, AreDueFree, IsNoneDue, Gains, over_rim, PairSteps, IsBeside, AtTile, AreBeside, beside_at, AreAtRest, heights_before}
 use Rattle.sand_fronts.specs.TileLists.{waits, but, IsClear, AreKept}
 use Rattle.sand_fronts.proofs.OnTiles.{place_below, there_again, at_on, on_below, height_low}
@@ -31,9 +31,7 @@ use Rattle.sand_fronts.proofs.Gained.{blank, no_place, cond_each}
 
 starts_none : (g : Grid) (site k : ℕ) → Starts g site 0 k 0
 starts_none g site k p low =
-    let z = bit_none p in
-    let n = on_below g (λ j. 0 * one_at site j) k p 0 low (λ j l. omega arith) in
-    omega arith
+    omega (arith, bit_none p, on_below g (λ j. 0 * one_at site j) k p 0 low (λ j l. omega arith))
 
 -- n sites at least have toppled, and the dropped one unless it is still to start; grains are under way
 pub record IsTurn (g : Grid) (site : ℕ) (h free : ℕ → ℕ) (τ : ℕ → Tile) (away : ℕ → ℕ → ℕ) (start n : ℕ) : Type 0 where
@@ -53,14 +51,9 @@ pub record HasTurn (g : Grid) (site free : ℕ) (t : Tile) (k : ℕ) (b : Beside
   pub tile : AtTile g k b
   pub ready : IsReady t free 0
 
-pub clear_site : (g : Grid) (site : ℕ) (τ : ℕ → Tile) → AreAtRest g site τ → toppled g τ site ≡ 0
-clear_site g site τ rest = rest.quiet.clear (tile_of g site) (place_of g site) (place_below g site)
-
 pub first_low : (g : Grid) (site : ℕ) (τ : ℕ → Tile) (j : ℕ) → j < sites g → j ≢ site → heights_before g site τ j ≤ 3
 first_low g site τ j l ne =
-    let o = one_at_other site j (λ e. ne (sym e)) in
-    let a = height_low (τ (tile_of g j)) (place_of g j) in
-    omega arith
+    omega (arith, one_at_other site j (λ e. ne (sym e)), height_low (τ (tile_of g j)) (place_of g j))
 
 -- before the first turn the dropped site is to start
 pub turn_none : {g : Grid} {site : ℕ} (free : ℕ → ℕ) {τ : ℕ → Tile} → AreOpen g site free → AreAtRest g site τ
@@ -70,12 +63,12 @@ turn_none {g} {site} free {τ} open' rest inside = record {
   from = record {
     inside = inside;
     low = first_low g site τ;
-    high = let o = one_at_same site in omega arith;
+    high = omega (arith, one_at_same site);
     all_open = open';
   };
   wave = first_wave g site τ rest inside;
-  due_free = λ m p low. let z = rest.quiet.none_due m p low in omega arith;
-  started = let z = clear_site g site τ rest in omega arith;
+  due_free = λ m p low. omega (arith, rest.quiet.none_due m p low);
+  started = omega (arith, rest.quiet.clear (tile_of g site) (place_of g site) (place_below g site));
   count = omega arith;
 }
 
@@ -148,18 +141,14 @@ keep_one {n} {kept} {next} {τ} {list} {t} k new all inside less read fits is =
         listed = cond_each (λ m x. IsClear x ⊎ Keeps (set list kept k) next m) τ k new
             (⊎_elim
             (λ (clear : IsClear (τ k)).
-            let z = no_place t.wave (λ p low. ap (λ (x : Tile). bit x.wave p) read ∙ clear p low) in
+            let z = no_place t.wave (λ p low. rw read (clear p low)) in
             let first = rw (eq-eqb t.wave 0 (omega arith)) at is in
             inr (kept, omega arith, omega arith, own))
             (λ (at : Keeps list kept k). inr (stays k at))
             (all.listed k))
-            (λ m ne. ⊎_elim (λ (clear : IsClear (τ m)). inl clear) (λ (at : Keeps list kept m). inr (stays m at))
-            (all.listed m));
-        on_board = λ i below. ⊎_elim
-            (λ (before : i < kept). let o = old i before in let b = all.on_board i before in omega arith)
-            (λ (last : kept ≤ i). let e = ap (λ j. get_or (set list kept k) j 0) {x = i} {y = kept}
-            (omega arith) in omega arith)
-            (cases_lt i kept);
+            (λ m ne. ⊎_elim inl (λ (at : Keeps list kept m). inr (stays m at)) (all.listed m));
+        on_board = λ i below. ⊎_elim (λ (before : i < kept). omega (arith, old i before, all.on_board i before))
+            (λ (last : kept ≤ i). let e : i ≡ kept = omega arith in rw (e, own) inside) (cases_lt i kept);
       },
       range.1,
     )
@@ -185,8 +174,7 @@ module _ {g : Grid} {site : ℕ} {h free : ℕ → ℕ} where
       let low = lowest a (λ e. omega arith) (omega arith) in
       let p = trailing_zeros w64 a in
       let one = sym (cut (τ k).due p low.0) ∙ low.1 in
-      let f = bit_le (free k) p in
-      let yes = open_site g site free k p turn.from.all_open low.0 (omega arith) in
+      let yes = open_site g site free k p turn.from.all_open low.0 (omega (arith, bit_le (free k) p)) in
       let t = there_again g k p low.0 yes.0 in
       record {
         j = site_on g k p;
@@ -211,17 +199,14 @@ module _ {g : Grid} {site : ℕ} {h free : ℕ → ℕ} where
       visits fits sums in
       let all = sum_below_same (sites g) (toppled g (put k t τ)) (λ i. toppled g τ i + u i) (λ i m. next.1 i)
       ∙ sum_below-add (sites g) (toppled g τ) u in
-      let part = at_most_sum_below (sites g) u j inside in
       let topples : u j ≡ 1 = only_same k (tile_of g j) (bit new) (place_of g j) here ∙ one in
-      let count = turn.count in
-      let few = bit_le (put k t τ (tile_of g site)).wave (place_of g site) in
       record {
         from = turn.from;
         wave = next.0;
         due_free = cond_each (λ m x. (p : ℕ) → p < 64 → bit x.due p ≤ bit (free m) p) τ k t
-            (λ p low. let z = ap (λ w. bit w p) visits.none_due ∙ bit_none p in omega arith) (λ m ne. turn.due_free m);
-        started = omega arith;
-        count = omega arith;
+            (λ p low. rw visits.none_due (omega (arith, bit_none p))) (λ m ne. turn.due_free m);
+        started = omega (arith, bit_le (put k t τ (tile_of g site)).wave (place_of g site));
+        count = omega (arith, turn.count, at_most_sum_below (sites g) u j inside);
       }
 
   -- a tile whose turn has come is visited
@@ -232,8 +217,8 @@ module _ {g : Grid} {site : ℕ} {h free : ℕ → ℕ} where
   turn_one {k = k} {new = new} {t = t} more turn has visits fits sums =
       let p = place_of g has.j in
       let low = place_below g has.j in
-      let f = ap (λ m. bit (free m) p) (sym has.here) ∙ free_at turn.from has.j has.inside has.other in
-      let none = ap (λ x. bit x p) visits.none_due ∙ bit_none p in
+      let f = rw has.here at (free_at turn.from has.j has.inside has.other) in
+      let none : bit t.due p ≡ 0 = rw visits.none_due (bit_none p) in
       let l = height_low t p in
       let few = bit_le new p in
       turn_visit more has.j turn (starts_none g site k) has.tile.each has.inside has.here (omega arith) (omega arith)
@@ -262,10 +247,10 @@ module _ {g : Grid} {site : ℕ} {h free : ℕ → ℕ} where
   turn_first {k = k} {new = new} {b = b} turn here begins beside visits fits =
       let inside = turn.from.inside in
       let p = place_of g site in
-      let lp = place_below g site in
-      let a = ap (λ m. on_tiles g (λ i. 1 - one_at site i) m p) here ∙ at_on g (λ i. 1 - one_at site i) site inside in
+      let a = rw (← here) at (at_on g (λ i. 1 - one_at site i) site inside) in
+      let st' = rw (← here) at (at_on g (λ i. 1 * one_at site i) site inside) in
       let s = one_at_same site in
-      let st' = ap (λ m. on_tiles g (λ i. 1 * one_at site i) m p) here ∙ at_on g (λ i. 1 * one_at site i) site inside in
+      let lp = place_below g site in
       let held = visits.at_held p lp (omega arith) in
       let own = only_same k (tile_of g site) (bit new) p (sym here) in
       turn_visit (over_rim b new) site turn begins beside inside (sym here) (omega arith) (omega arith) visits fits
@@ -280,30 +265,31 @@ module _ {g : Grid} {site : ℕ} {h free : ℕ → ℕ} where
       let same : (j : ℕ) → toppled g σ j ≡ toppled g τ j =
       λ j. gains.wave (tile_of g j) (place_of g j) (place_below g j) in
       let sums = sum_below_same (sites g) (toppled g σ) (toppled g τ) (λ j l. same j) in
-      let count = turn.count in
-      let still = same site in
-      let long = longer joins in
       record {
         turn = record {
           from = turn.from;
           wave = handed_over turn.from turn.wave gains;
           due_free = gains.due_free turn.due_free;
-          started = omega arith;
-          count = omega arith;
+          started = omega (arith, same site, turn.started);
+          count = omega (arith, turn.count);
         };
         waiting = waiting_from joins position within waiting;
         all_kept = kept_on all (λ t less. kept_before joins t (omega arith)) gains.wave;
         spent = spent;
-        within = omega arith;
+        within = omega (arith, longer joins);
       }
 
   -- the list never has more tiles than there are sites and tiles
   pub few_listed : {τ : ℕ → Tile} {list : List ℕ} {kept position : ℕ} → IsOn g site h free τ list kept position
       → length list ≤ sites g + tiles g
   few_listed {τ} {list} {position = position} on =
-      let few = few_topplings g τ in
-      let long = lists_length (tiles g) (waits τ) (drop position list) on.waiting in
-      omega (arith, length-drop position list, on.turn.count)
+      omega (
+        arith,
+        few_topplings g τ,
+        lists_length (tiles g) (waits τ) (drop position list) on.waiting,
+        length-drop position list,
+        on.turn.count,
+      )
 
   module _ {τ : ℕ → Tile} {list : List ℕ} {kept position j : ℕ} {all : List Beside} (board : AreBeside g all)
       (on : IsOn g site h free τ list kept position) (is : j ≡ get_or list position 0) where

@@ -5,7 +5,7 @@ use Rattle.sand_model.specs.Sand.{sum_below}
 use Rattle.sand_tiles.specs.Places.{bit}
 use Rattle.sand_fronts.specs.Reaching.{spot_of}
 use Rattle.sand_fronts.proofs.Counted.{few_in_sets, set_less}
-use Rattle.sand_fronts.proofs.MarkedTiles.{all_empty}
+use Rattle.sand_fronts.proofs.Marked.{all_empty}
 use Rattle.sand_fronts.proofs.Reached.{sets_begin, sets_more, sets_all}
 use Rattle.sand_fronts.proofs.extent.take_all.Goals as goal
 

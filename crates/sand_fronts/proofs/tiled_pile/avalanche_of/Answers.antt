@@ -25,6 +25,6 @@ returns-clause-avalanche c v toppled size lost = record {
   area = c.take_all-area.ensures.area ∙ ap (λ n. in_sets n (slice_index c.args.marks.now.sets)) c.requires.len
       ∙ area_is c.args.shape (λ j. one_if (ltb 0 (v j))) (slice_index c.args.marks.now.sets) toppled;
   within = all_within c.args.shape c.args.site v toppled c.take_all-area.ensures.reach;
-  reached = some_reached c.args.shape c.args.site v toppled c.take_all-area.ensures.reach;
+  reached = some_reached c.args.shape c.args.site v c.requires.at_sites toppled c.take_all-area.ensures.reach;
   all_lost = lost;
 }

@@ -5,7 +5,7 @@ use Rattle.std.proofs.lemmas.Nat.{le_or_l}
 use Rattle.sand_model.proofs.Lists.{lists_length}
 use Rattle.sand_fronts.specs.Marking.{MarksView, has_mark}
 use Rattle.sand_model.specs.IndexLists.{ListView}
-use Rattle.sand_fronts.proofs.MarkedTiles.{lists_marked}
+use Rattle.sand_fronts.proofs.Marked.{lists_marked}
 use Rattle.sand_fronts.proofs.marks.Marks.mark.Goals as goal
 
 pub push_if-requires-clause-room : goal.push_if-requires-clause-room

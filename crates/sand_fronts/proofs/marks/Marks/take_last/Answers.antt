@@ -2,7 +2,7 @@ use Rattle.std.proofs.Common.{◌-◌, ◌<◌, ap, arith, length}
 use Rattle.std.proofs.lemmas.List.{length-set}
 use Rattle.sand_fronts.specs.Marking.{MarksView}
 use Rattle.sand_model.specs.IndexLists.{ListView}
-use Rattle.sand_fronts.proofs.MarkedTiles.{tile_below, lists_taken}
+use Rattle.sand_fronts.proofs.Marked.{tile_below, lists_taken}
 use Rattle.sand_fronts.proofs.marks.Marks.take_last.Goals.{After-item-k}
 use Rattle.sand_fronts.proofs.marks.Marks.take_last.Goals as goal
 

@@ -1,6 +1,6 @@
 use Rattle.std.proofs.Common.{ap, arith, length}
 use Rattle.sand_fronts.specs.Marking.{MarksView}
-use Rattle.sand_fronts.proofs.MarkedTiles.{tile_below}
+use Rattle.sand_fronts.proofs.Marked.{tile_below}
 use Rattle.sand_fronts.proofs.marks.Marks.tile.Goals as goal
 
 pub returns-clause-within : goal.returns-clause-within
