@@ -24,9 +24,6 @@ use Rattle.sand_fronts.proofs.Gained.{tile_set}
 use Rattle.sand_fronts.proofs.Sums.{sum_below_none, sum_below_most}
 use Rattle.sand_fronts.proofs.OnTiles.{height_low}
 
-pub no_list : (m p : ℕ) → spilled_at [] m p ≡ 0
-no_list m p = refl
-
 -- a list of zeros for one tile more
 pub one_list : (ss : List (List ℕ)) (m p : ℕ) → p < 64 → spilled_at (ss ++ replicate 64 0 ∷ []) m p ≡ spilled_at ss m p
 one_list [] zero p low = get_or-replicate {A = ℕ} 64 p 0 0 low

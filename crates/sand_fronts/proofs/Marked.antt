@@ -1,19 +1,16 @@
 -- The sets of the sites that a drop has toppled, and the list of the tiles whose sets are not empty.
-use Rattle.std.proofs.Common.{ℕ, ltb, ◌≡◌, ◌+◌, ◌<◌, ◌∙◌, arith, suc, cond, eqb, not, ◌&&◌, List, [], ◌∷◌, ◌++◌, ◌≤◌, inl, inr, length, take, get_or, refl, sym, ap, ⊎_elim}
+use Rattle.std.proofs.Common.{ℕ, ltb, ◌≡◌, ◌+◌, ◌<◌, ◌∙◌, arith, suc, List, [], ◌∷◌, ◌≤◌, inl, inr, length, get_or, refl, sym, ⊎_elim}
 use Rattle.std.proofs.lemmas.Bool.Decides.{nat_tests}
 use Rattle.std.specs.Prelude.{slice_index}
 use Rattle.std.proofs.lemmas.Grind.{get_or_default_zero}
-use Rattle.std.proofs.Math.ListN.{set, get_or-eq_default}
-use Rattle.std.proofs.Math.Seq.{take-suc}
+use Rattle.std.proofs.Math.ListN.{get_or-eq_default}
 use Rattle.std.proofs.lemmas.Bool.{cases_eq}
-use Rattle.std.proofs.lemmas.List.{take_all, get_or-set_same, get_or-set_other, length-set}
 use Rattle.sand_model.specs.Grid.{Grid, sites}
 use Rattle.sand_model.specs.Sand.{sum_below, occurrences}
 use Rattle.sand_model.specs.Lists.{one_if, Lists}
 use Rattle.sand_model.proofs.SumsBelow.{sum_below_same, one_at_other}
 use Rattle.sand_model.proofs.Occurrences.{occurrences-cons}
-use Rattle.sand_model.proofs.Lists.{lists_shorter, listed, read_below}
-use Rattle.sand_model.proofs.IndexLists.{queued}
+use Rattle.sand_model.proofs.Lists.{listed, read_below}
 use Rattle.sand_tiles.specs.Places.{bit}
 use Rattle.sand_tiles.specs.Counts.{Count, counted}
 use Rattle.sand_tiles.proofs.Bits.{bit_none}
@@ -47,31 +44,11 @@ area_is g v b each =
 
 -- ---- the list
 
--- a tile joins the list when its first places are marked
-pub lists_marked : (ws list : List ℕ) (k x y : ℕ) → k < length ws → x ≡ slice_index ws k → (0 < x → 0 < y)
-    → Lists (length ws) (has_mark ws) list
-    → Lists (length (set ws k y)) (has_mark (set ws k y)) (cond (eqb x 0 && not (eqb y 0)) (list ++ k ∷ []) list)
-lists_marked ws list k x y inside read grows lists =
-    let now = get_or-set_same ws k y 0 inside in
-    rw length-set (queued {p = has_mark ws} {q = has_mark (set ws k y)} list inside
-    (λ i l ne. ap (ltb 0) (sym (get_or-set_other ws k i y 0 ne)))
-    (grind (arith, nat_tests)) (grind (arith, nat_tests)) lists)
-
 -- a tile that is read from the list has a set
 pub tile_below : (ws list : List ℕ) (position k : ℕ) → Lists (length ws) (has_mark ws) list → position < length list
     → k ≡ get_or list position 0 → k < length ws
 tile_below ws list position k lists less is = read_below (length ws) (has_mark ws) list position k lists less
     (is ∙ sym (get_or_default_zero list position k less))
-
--- the last tile leaves the list when its set is taken
-pub lists_taken : (ws list : List ℕ) (k last : ℕ) → k < length ws → k ≡ slice_index list last → last + 1 ≡ length list
-    → Lists (length ws) (has_mark ws) list → Lists (length (set ws k 0)) (has_mark (set ws k 0)) (take last list)
-lists_taken ws list k last inside read is lists =
-    let whole : take last list ++ k ∷ [] ≡ list =
-    rw (read, ← take-suc list last 0 (omega arith)) (take_all (suc last) list (omega arith)) in
-    rw length-set (lists_shorter (length ws) (has_mark ws) (has_mark (set ws k 0)) (take last list) k (rw whole lists)
-    (ap (ltb 0) (get_or-set_same ws k 0 0 inside))
-    (λ j l ne. ap (ltb 0) (sym (get_or-set_other ws k j 0 0 ne))))
 
 turn_of : (xs : List ℕ) (i : ℕ) → 1 ≤ occurrences xs i → (t : ℕ) × (t < length xs) × (get_or xs t 0 ≡ i)
 turn_of [] i some = absurd (omega arith)

@@ -21,7 +21,6 @@ use Rattle.sand_fronts.specs.Counting.{spilled_at, count_at}
 use Rattle.sand_fronts.specs.Drops.{heights_on, counted_on, grown_on, AreQuiet}
 use Rattle.sand_fronts.specs.Boards.{tiles_of, counts_of}
 use Rattle.sand_fronts.specs.TiledPiles.{tiled_view, by_site, IsTiledView}
-use Rattle.sand_fronts.proofs.Counted.{no_list}
 use Rattle.sand_fronts.proofs.Filled.{entry_each, inner_site}
 use Rattle.sand_fronts.proofs.OnTiles.{place_below, at_on, on_site, on_below, on_sum}
 
@@ -41,7 +40,7 @@ pub counts_none : (cs : List Recent) (ss : List (List ℕ)) (n m p : ℕ) → cs
     → counted (count_at cs ss m) p ≡ 0
 counts_none cs ss n m p all none =
     let a = ap (λ (r : Recent). times r.planes p) (none_recent cs n m all) in
-    let b = ap (λ (xs : List (List ℕ)). spilled_at xs m p) none ∙ no_list m p in
+    let b = ap (λ (xs : List (List ℕ)). spilled_at xs m p) none in
     let z = bit_none p in
     omega arith
 

@@ -1,5 +1,5 @@
 -- How far a drop has reached.
-use Rattle.std.proofs.Common.{ℕ, true, cond, eqb, ltb, refl, inr, ◌≡◌, ◌≢◌, ◌⊎◌, ◌+◌, ◌*◌, ◌/◌, ◌%◌, ◌^◌, ◌<◌, ◌≤◌, min, max, ◌∙◌, ap, arith, ⊎_elim}
+use Rattle.std.proofs.Common.{ℕ, true, cond, eqb, ltb, ◌≡◌, ◌≢◌, ◌⊎◌, ◌+◌, ◌*◌, ◌/◌, ◌%◌, ◌^◌, ◌<◌, ◌≤◌, min, max, ◌∙◌, ap, arith, ⊎_elim}
 use Rattle.std.specs.Prelude.{bit_xor}
 use Rattle.std.specs.Int.{abs_diff, trailing_zeros}
 use Rattle.std.proofs.Common.{w64}
@@ -7,14 +7,14 @@ use Rattle.std.proofs.lemmas.Nat.Bits.{bit_at-trailing_zeros}
 use Rattle.std.proofs.lemmas.Bool.{cases_lt}
 use Rattle.std.proofs.lemmas.Bool.Decides.{nat_tests}
 use Rattle.std.proofs.lemmas.Nat.{div-mul-add, mod-mul-add, mod_below, div_below}
-use Rattle.sand_model.specs.Grid.{Grid, IsGrid, sites, joins, row, distance}
+use Rattle.sand_model.specs.Grid.{Grid, IsGrid, sites, joins, distance}
 use Rattle.sand_model.specs.Sand.{sum_below, one_at}
 use Rattle.sand_model.specs.Lists.{one_if}
 use Rattle.sand_model.proofs.SumsBelow.{sum_below_same, sum_below-add, sum_below-one_at}
 use Rattle.sand_tiles.specs.Places.{bit}
 use Rattle.sand_tiles.proofs.Bits.{bit_le, bit_none, half, both_le}
 use Rattle.sand_fronts.specs.declared.reach.Spot.{Spot}
-use Rattle.sand_fronts.specs.Reaching.{distance_within, spot_of, corner_of, IsReachedFrom, IsReachedIn, distance_between}
+use Rattle.sand_fronts.specs.Reaching.{distance_within, spot_of, corner_of, IsReachedFrom, IsReachedIn}
 use Rattle.sand_fronts.specs.Avalanches.{IsReached}
 use Rattle.sand_fronts.specs.Marking.{AreSites, AreToppled}
 use Rattle.sand_fronts.specs.Tiling.{tile_of, place_of, row_at, column_at, is_site, site_on}
@@ -71,14 +71,6 @@ pub record Reads (g : Grid) (s corner : Spot) (set rest reach far : ℕ) : Type 
   pub done : (p : ℕ) → p < 64 → bit set p ≡ 1 → bit rest p ≡ 0 → distance_within g s corner p ≤ far
   pub reached : reach < far → (p : ℕ) × (p < 64) × (bit set p ≡ 1) × (distance_within g s corner p ≡ far)
 
-pub reads_begin : (g : Grid) (s corner : Spot) (set reach : ℕ) → Reads g s corner set set reach reach
-reads_begin g s corner set reach = record {
-  within_set = λ p low. omega arith;
-  grows = omega arith;
-  done = λ p low is none. absurd (omega arith);
-  reached = λ more. absurd (omega arith);
-}
-
 pub reads_more : {g : Grid} {s corner : Spot} {set rest next reach far place : ℕ} (d now : ℕ)
     → Reads g s corner set rest reach far → IsTaken rest next place
     → d ≡ distance_within g s corner place → now ≡ max far d → Reads g s corner set next reach now
@@ -92,14 +84,6 @@ reads_more {set = set} {far = far} {place = place} d now before gone there most 
       (cases_lt far d);
 }
 
-pub reads_all : {g : Grid} {s corner : Spot} {set rest reach far : ℕ} → Reads g s corner set rest reach far
-    → rest ≡ 0 → IsReachedFrom g s corner set reach far
-reads_all before none = record {
-  grows = before.grows;
-  within = λ p low is. before.done p low is (rw none (bit_none p));
-  reached = before.reached;
-}
-
 -- ---- tile by tile
 
 -- the sets that are no longer in the rest have been read
@@ -108,13 +92,6 @@ pub record SetsRead (g : Grid) (s : Spot) (words rest : ℕ → ℕ) (reach : �
   pub within : (m p : ℕ) → rest m ≡ 0 → p < 64 → bit (words m) p ≡ 1 → distance_within g s (corner_of g m) p ≤ reach
   pub reached : 0 < reach
       → (m : ℕ) × (p : ℕ) × (p < 64) × (bit (words m) p ≡ 1) × (distance_within g s (corner_of g m) p ≡ reach)
-
-pub sets_begin : (g : Grid) (s : Spot) (words : ℕ → ℕ) → SetsRead g s words words 0
-sets_begin g s words = record {
-  left = λ m. inr refl;
-  within = λ m p none low is. let z = bit_none p in grind arith;
-  reached = λ some. absurd (omega arith);
-}
 
 pub sets_more : {g : Grid} {s : Spot} {words rest : ℕ → ℕ} (next : ℕ → ℕ) (k : ℕ) {set reach far : ℕ}
     → SetsRead g s words rest reach → IsReachedFrom g s (corner_of g k) set reach far → set ≡ rest k
@@ -134,18 +111,9 @@ sets_more {g} {s} {words} {rest} next k {set} {reach} {far} before one is each =
           let l = before.left k in
           let z = bit_none now.0 in
           (k, now.0, now.1, grind arith, now.3))
-          (λ (not : far ≤ reach).
-          let old = before.reached (omega arith) in
-          (old.0, old.1, old.2, old.3, omega arith))
+          (λ (not : far ≤ reach). let old = before.reached (omega arith) in (old.0, old.1, old.2, old.3, omega arith))
           (cases_lt reach far);
     }
-
-pub sets_all : {g : Grid} {s : Spot} {words rest : ℕ → ℕ} {reach : ℕ} → SetsRead g s words rest reach
-    → ((m : ℕ) → rest m ≡ 0) → IsReachedIn g s words reach
-sets_all {g} {s} {words} {rest} {reach} before none = record {
-  within = λ m p low is. before.within m p (none m) low is;
-  reached = before.reached;
-}
 
 -- ---- site by site
 
@@ -153,11 +121,10 @@ distance_on : (g : Grid) (site k p : ℕ) → is_site g k p ≡ true
     → distance g site (site_on g k p) ≡ distance_within g (spot_of g site) (corner_of g k) p
 unfolding distance site_on
 distance_on g site k p is =
+    let y = row_at g k p in
+    let x = column_at g k p in
     let wide = (in_grid g k p is).3 in
-    ap (λ x. distance_between g (spot_of g site) x (row g (site_on g k p)))
-    (mod-mul-add (row_at g k p) g.width (column_at g k p) wide)
-    ∙ ap (distance_between g (spot_of g site) (column_at g k p))
-    (div-mul-add (row_at g k p) g.width (column_at g k p) wide)
+    rw (mod-mul-add y g.width x wide, div-mul-add y g.width x wide)
 
 -- a place is in the sets if and only if its site has toppled, so what is within reach of them is so for the sites
 pub all_within : (g : Grid) (site : ℕ) (v : ℕ → ℕ) {words : ℕ → ℕ} {reach : ℕ} → AreToppled g v words

@@ -1,19 +1,18 @@
 -- Heights and an odometer by site that follow what topples on tiles.
 use Rattle.std.proofs.Common.{ℕ, List, Option, None, get_or, true, refl, ◌≡◌, ◌≢◌, ◌+◌, ◌*◌, ◌/◌, ◌%◌, ◌<◌, ◌≤◌, sym, ◌∙◌, ap, arith}
-use Rattle.std.proofs.Math.ListN.{set}
 use Rattle.std.proofs.lemmas.Bool.Decides.{nat_tests}
 use Rattle.sand_model.specs.Grid.{Grid, sites, places}
 use Rattle.sand_model.specs.Sand.{flow, one_at, value_at}
 use Rattle.sand_model.proofs.Flow.{flow_same, flow-add, flow-scale, four_places}
 use Rattle.sand_tiles.specs.Places.{bit}
 use Rattle.sand_tiles.specs.Counts.{Count, counted}
-use Rattle.sand_tiles.proofs.Bits.{bit_le, bit_none}
+use Rattle.sand_tiles.proofs.Bits.{bit_le}
 use Rattle.sand_fronts.specs.declared.reach.Spot.{Spot}
 use Rattle.sand_fronts.specs.declared.counts.Counts.{Counts}
 use Rattle.sand_fronts.specs.Boards.{counts_of, AreCleared}
 use Rattle.sand_fronts.specs.Reaching.{corner_of}
 use Rattle.sand_fronts.specs.Tiling.{tile_of, place_of, is_site, site_on}
-use Rattle.sand_fronts.specs.WrittenBack.{risen, AreLow, Follows, CountsTile}
+use Rattle.sand_fronts.specs.WrittenBack.{risen, AreLow, Follows}
 use Rattle.sand_fronts.proofs.Gained.{changed_each}
 use Rattle.sand_fronts.proofs.Reached.{IsTaken}
 use Rattle.sand_fronts.proofs.OnTiles.{place_below, there_again, same_site}
@@ -69,15 +68,6 @@ pub cleared_each : (P : ℕ → Count → Type 0) {k : ℕ} {c d : Counts} → A
     → ((m : ℕ) → (m ≡ k → ⊥) → P m (counts_of c m)) → (m : ℕ) → P m (counts_of d m)
 cleared_each P {k} {c} {d} cleared here = changed_each P (counts_of c) (counts_of d) k here cleared.others
 
-pub tile_begins : (g : Grid) (k : ℕ) (c : Count) (set : ℕ) (u : List ℕ)
-    → ((p : ℕ) → p < 64 → bit set p ≡ 0 → counted c p ≡ 0) → TileWritten g k c set set u u
-tile_begins g k c set u none = record {
-  within_set = λ p low. omega arith;
-  done = λ j l here out. let z = none (place_of g j) (place_below g j) out in omega arith;
-  left = λ j l here in'. refl;
-  others = λ j l ne. refl;
-}
-
 -- a place is taken out of the rest, and this is its site
 pub record IsNext (g : Grid) (k place rest next site : ℕ) : Type 0 where
   pub taken : IsTaken rest next place
@@ -129,11 +119,4 @@ tile_more {g} {k} {place} {set} {rest} {next} {site} {c} {u} {v} w before there 
       let more = counts j in
       let at = there.tile in
       grind (arith, nat_tests);
-}
-
-pub tile_ends : {g : Grid} {k : ℕ} {c : Count} {set rest : ℕ} {u v : List ℕ} → TileWritten g k c set rest u v
-    → rest ≡ 0 → CountsTile g k c u v
-tile_ends {g} before none = record {
-  there = λ j l tile. before.done j l tile (rw none (bit_none (place_of g j)));
-  others = before.others;
 }

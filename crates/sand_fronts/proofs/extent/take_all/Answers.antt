@@ -1,18 +1,22 @@
-use Rattle.std.proofs.Common.{refl, ◌∙◌, ap, arith, length}
+use Rattle.std.proofs.Common.{inr, refl, ◌∙◌, ap, arith, length}
 use Rattle.std.specs.Prelude.{slice_index}
 use Rattle.std.proofs.lemmas.Bool.{eq-eqb, ne_eqb}
 use Rattle.sand_model.specs.Sand.{sum_below}
 use Rattle.sand_tiles.specs.Places.{bit}
-use Rattle.sand_fronts.specs.Reaching.{spot_of}
 use Rattle.sand_fronts.proofs.Counted.{few_in_sets, set_less}
 use Rattle.sand_fronts.proofs.Marked.{all_empty}
-use Rattle.sand_fronts.proofs.Reached.{sets_begin, sets_more, sets_all}
+use Rattle.sand_tiles.proofs.Bits.{bit_none}
+use Rattle.sand_fronts.proofs.Reached.{sets_more}
 use Rattle.sand_fronts.proofs.extent.take_all.Goals as goal
 
 pub tiles-init : goal.tiles-init
 tiles-init c = record {
   marks_each = refl;
-  read = sets_begin c.args.shape (spot_of c.args.shape c.args.site) (slice_index c.args.marks.now.sets);
+  read = record {
+    left = λ m. inr refl;
+    within = λ m p none low is. let z = bit_none p in grind arith;
+    reached = λ some. absurd (omega arith);
+  };
   so_far = omega arith;
 }
 
@@ -46,7 +50,10 @@ returns c =
     c.len-in-tiles.ensures.lists (omega (arith, c.len-in-tiles.ensures.value, c.tiles-test.false)) in
     record {
       area = omega (arith, c.tiles.invariant.so_far, none.1);
-      reach = sets_all c.tiles.invariant.read none.0;
+      reach = record {
+        within = λ m p. c.tiles.invariant.read.within m p (none.0 m);
+        reached = c.tiles.invariant.read.reached;
+      };
       len = c.tiles.invariant.marks_each;
       none = none.0;
     }
@@ -58,8 +65,10 @@ returns-then-len-eq0 c =
     (omega (arith, c.len.ensures.value, c.if-len-eq0.true)) in
     record {
       area = omega (arith, none.1);
-      reach = sets_all (sets_begin c.args.shape (spot_of c.args.shape c.args.site) (slice_index c.args.marks.now.sets))
-          none.0;
+      reach = record {
+        within = λ m p low is. let z = rw none.0 at is in absurd (omega (arith, bit_none p));
+        reached = λ some. absurd (omega arith);
+      };
       len = refl;
       none = none.0;
     }

@@ -1,11 +1,9 @@
-use Rattle.std.proofs.Common.{w64, arith}
+use Rattle.std.proofs.Common.{w64, ◌≡◌, arith}
 use Rattle.std.specs.Prelude.{bit_xor}
 use Rattle.std.specs.Int.{trailing_zeros}
-use Rattle.sand_fronts.proofs.Reached.{IsTaken, taken, fewer_left, reads_begin, reads_more, reads_all}
+use Rattle.sand_tiles.proofs.Bits.{bit_none}
+use Rattle.sand_fronts.proofs.Reached.{IsTaken, taken, fewer_left, reads_more}
 use Rattle.sand_fronts.proofs.reach.reach_in.Goals as goal
-
-pub places-init : goal.places-init
-places-init c = record { reads = reads_begin c.args.shape c.args.from c.args.corner c.args.set c.args.reach }
 
 taken_of : (c : goal.After-max-far)
     → IsTaken c.places.rest (bit_xor c.places.rest c.set_of-rest.result) (trailing_zeros w64 c.places.rest)
@@ -22,4 +20,11 @@ places-preserved c = record {
 }
 
 pub returns : goal.returns
-returns c = reads_all c.places.invariant.reads (omega (arith, c.places-test.false))
+returns c =
+    let reads = c.places.invariant.reads in
+    let none : c.places.rest ≡ 0 = omega (arith, c.places-test.false) in
+    record {
+      grows = reads.grows;
+      within = λ p low is. reads.done p low is (rw none (bit_none p));
+      reached = reads.reached;
+    }

@@ -1,17 +1,24 @@
-use Rattle.std.proofs.Common.{w64, ◌∙◌, ap, arith}
+use Rattle.std.proofs.Common.{w64, refl, ◌≡◌, ◌∙◌, ap, arith}
 use Rattle.std.specs.Prelude.{bit_xor}
 use Rattle.std.specs.Int.{trailing_zeros}
 use Rattle.sand_tiles.specs.Places.{bit}
-use Rattle.sand_fronts.specs.Boards.{counts_of}
+use Rattle.sand_tiles.proofs.Bits.{bit_none}
+use Rattle.sand_fronts.specs.Tiling.{place_of}
+use Rattle.sand_fronts.proofs.OnTiles.{place_below}
 use Rattle.sand_fronts.proofs.Reached.{taken, fewer_left}
-use Rattle.sand_fronts.proofs.WrittenBack.{follows_none, follows_more, IsNext, tile_begins, next_site, tile_more, tile_ends}
+use Rattle.sand_fronts.proofs.WrittenBack.{follows_none, follows_more, IsNext, next_site, tile_more}
 use Rattle.sand_fronts.proofs.written_back.write_tile.Goals.{After-site_in-site}
 use Rattle.sand_fronts.proofs.written_back.write_tile.Goals as goal
 
 pub places-init : goal.places-init
 places-init c = record {
-  written = tile_begins c.args.shape c.args.k (counts_of c.args.counts.now c.args.k)
-      c.args.set c.args.odometer.now c.requires.no_other;
+  written = record {
+    within_set = λ p low. omega arith;
+    done = λ j l here out.
+        omega (arith, c.requires.no_other (place_of c.args.shape j) (place_below c.args.shape j) out);
+    left = λ j l here in'. refl;
+    others = λ j l ne. refl;
+  };
   follows = follows_none c.args.shape c.args.heights.now c.args.odometer.now c.requires.low;
 }
 
@@ -49,4 +56,9 @@ places-preserved c = record {
 }
 
 pub returns-clause-counted : goal.returns-clause-counted
-returns-clause-counted c = tile_ends c.places.invariant.written (omega (arith, c.places-test.false))
+returns-clause-counted c =
+    let none : c.places.rest ≡ 0 = omega (arith, c.places-test.false) in
+    record {
+      there = λ j l tile. c.places.invariant.written.done j l tile (rw none (bit_none (place_of c.args.shape j)));
+      others = c.places.invariant.written.others;
+    }

@@ -1,8 +1,7 @@
 use Rattle.std.proofs.Common.{◌-◌, ◌<◌, ap, arith, length}
-use Rattle.std.proofs.lemmas.List.{length-set}
+use Rattle.std.proofs.lemmas.Grind.{common_steps}
 use Rattle.sand_fronts.specs.Marking.{MarksView}
-use Rattle.sand_model.specs.IndexLists.{ListView}
-use Rattle.sand_fronts.proofs.Marked.{tile_below, lists_taken}
+use Rattle.sand_fronts.proofs.Marked.{tile_below}
 use Rattle.sand_fronts.proofs.marks.Marks.take_last.Goals.{After-item-k}
 use Rattle.sand_fronts.proofs.marks.Marks.take_last.Goals as goal
 
@@ -26,11 +25,4 @@ returns-clause-tile c = omega (
 )
 
 pub invariant_of-self : goal.invariant_of-self
-invariant_of-self c =
-    let ws = c.self.inside.words.items in
-    let k = c.item-k.result in
-    let view = ap (λ (x : MarksView). length x.tiles) c.self.view_is in (
-      omega (arith, c.self.invariant.0, length-set ws k 0, ap (λ (l : ListView). l.room) c.truncate.ensures),
-      rw c.truncate.ensures (lists_taken ws c.self.inside.tiles.items k (c.len-last.result - 1)
-          (inside (goal.at.invariant_of-self c).After-item-k) c.item-k.ensures (omega arith) c.self.invariant.1),
-    )
+invariant_of-self c = (grind (arith, common_steps), grind (arith, common_steps))
