@@ -4,7 +4,7 @@ use Rattle.std.specs.Prelude.{bit_or, slice_index, vec_capacity}
 use Rattle.std.specs.Vec.{with_item}
 use Rattle.std.proofs.Math.Nat.{mul-le-mul_right}
 use Rattle.std.proofs.Math.ListN.{set}
-use Rattle.std.proofs.lemmas.Bool.{cases_eq, eq-eqb, ne_eqb}
+use Rattle.std.proofs.lemmas.Bool.{cases_eq}
 use Rattle.std.proofs.lemmas.List.{get_or-set_same, get_or-set_other, length-set, get_or-replicate}
 use Rattle.std.proofs.lemmas.Bool.Decides.{nat_tests}
 use Rattle.sand_model.specs.Sand.{sum_below, one_at}
@@ -38,15 +38,13 @@ pub adds_at : (c : Counts) (ss : Vec (List ℕ) Global) (k word : ℕ) (r : Rece
     → ((m p : ℕ) → m ≢ k → p < 64 → spilled_at ss.items m p ≡ spilled_at c.spilled.items m p)
     → AddsSet k word c (record c { each = with_item c.each k r; spilled = ss })
 adds_at c ss k word r inside room grows same =
-    let cs = c.each.items in
-    let now = get_or-set_same cs k r no_recent inside in
-    let other : (m : ℕ) → m ≢ k → get_or (set cs k r) m no_recent ≡ get_or cs m no_recent =
-    λ m ne. get_or-set_other cs k m r no_recent ne in
+    let other : (m : ℕ) → m ≢ k → get_or (set c.each.items k r) m no_recent ≡ get_or c.each.items m no_recent =
+    λ m ne. get_or-set_other c.each.items k m r no_recent ne in
     record {
-      counts_each = length-set {A = Recent} cs k r;
+      counts_each = length-set {A = Recent} c.each.items k r;
       room = room;
       marks = refl;
-      here = λ p low. rw now (grows p low);
+      here = λ p low. rw (get_or-set_same c.each.items k r no_recent inside) (grows p low);
       others_sound = λ m ne before. rw (other m ne) before;
       others = λ m p ne low. rw (other m ne, same m p ne low) refl;
     }
@@ -111,15 +109,14 @@ marked_at : {k word : ℕ} {c d : Counts} (x y : ℕ → ℕ) (m p : ℕ) → p 
     → y m ≡ cond (eqb m k) (bit_or (x m) word) (x m)
     → (w : ℕ) × (w ≤ 1) × (bit (y m) p ≡ max (bit (x m) p) w)
     × (counted (counts_of d m) p ≡ counted (counts_of c m) p + w)
-marked_at {k} {word} {c} {d} x y m p low added marks = ⊎_elim
-    (λ (e : m ≡ k).
+marked_at {k} {word} {c} {d} x y m p low added marks =
     let f = either (x m) word p in
     let g = both_le (x m) word p in
     let few = bit_le (bit_or (x m) word) p in
-    (bit word p, bit_le word p, rw (marks, eq-eqb m k e) (omega arith), rw e (added.here p low)))
-    (λ (ne : m ≡ k → ⊥).
-    (0, omega arith, rw (marks, ne_eqb m k ne) (omega arith), omega (arith, added.others m p ne low)))
-    (cases_eq m k)
+    let one = bit_le word p in
+    let here = added.here p low in
+    let other : m ≢ k → counted (counts_of d m) p ≡ counted (counts_of c m) p = λ ne. added.others m p ne low in
+    (cond (eqb m k) (bit word p) 0, grind (arith, nat_tests), grind (arith, nat_tests), grind (arith, nat_tests))
 
 pub marked_one : {k word : ℕ} {c d : Counts} (x y : ℕ → ℕ) → AddsSet k word c d
     → ((m : ℕ) → y m ≡ cond (eqb m k) (bit_or (x m) word) (x m)) → AreMarked (counts_of c) (counts_of d) x y

@@ -1,13 +1,13 @@
 -- How far a drop has reached.
-use Rattle.std.proofs.Common.{ℕ, true, cond, eqb, ltb, ◌≡◌, ◌≢◌, ◌⊎◌, ◌+◌, ◌*◌, ◌/◌, ◌%◌, ◌^◌, ◌<◌, ◌≤◌, min, max, ◌∙◌, ap, arith, ⊎_elim}
+use Rattle.std.proofs.Common.{ℕ, true, cond, eqb, ltb, ◌≡◌, ◌≢◌, ◌⊎◌, ◌+◌, ◌*◌, ◌^◌, ◌<◌, ◌≤◌, max, ◌∙◌, ap, arith, ⊎_elim}
 use Rattle.std.specs.Prelude.{bit_xor}
-use Rattle.std.specs.Int.{abs_diff, trailing_zeros}
+use Rattle.std.specs.Int.{trailing_zeros}
 use Rattle.std.proofs.Common.{w64}
 use Rattle.std.proofs.lemmas.Nat.Bits.{bit_at-trailing_zeros}
 use Rattle.std.proofs.lemmas.Bool.{cases_lt}
 use Rattle.std.proofs.lemmas.Bool.Decides.{nat_tests}
 use Rattle.std.proofs.lemmas.Nat.{div-mul-add, mod-mul-add, mod_below, div_below}
-use Rattle.sand_model.specs.Grid.{Grid, IsGrid, sites, joins, distance}
+use Rattle.sand_model.specs.Grid.{Grid, IsGrid, sites, distance}
 use Rattle.sand_model.specs.Sand.{sum_below, one_at}
 use Rattle.sand_model.specs.Lists.{one_if}
 use Rattle.sand_model.proofs.SumsBelow.{sum_below_same, sum_below-add, sum_below-one_at}
@@ -19,17 +19,6 @@ use Rattle.sand_fronts.specs.Avalanches.{IsReached}
 use Rattle.sand_fronts.specs.Marking.{AreSites, AreToppled}
 use Rattle.sand_fronts.specs.Tiling.{tile_of, place_of, row_at, column_at, is_site, site_on}
 use Rattle.sand_fronts.proofs.OnTiles.{place_below, back_again, there_again, in_grid, at_on, on_site}
-
--- ---- bounds on the distance of a place of a tile
-
-pub within_farthest : (g : Grid) (s corner : Spot) (p across near down : ℕ) → p < 64
-    → across ≡ max (abs_diff s.column corner.column) (abs_diff s.column (corner.column + 7))
-    → down ≡ max (abs_diff s.row corner.row) (abs_diff s.row (corner.row + 7))
-    → near ≡ cond (joins g.edge) (min across (g.width / 2)) across → distance_within g s corner p ≤ near + down
-within_farthest g s corner p across near down low wide tall is =
-    let a : abs_diff s.column (corner.column + p % 8) ≤ across = omega arith in
-    let b : abs_diff s.row (corner.row + p / 8) ≤ down = omega arith in
-    grind arith
 
 -- ---- place by place
 

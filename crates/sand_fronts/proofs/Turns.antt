@@ -1,8 +1,9 @@
 -- The turns of a wave: each waiting tile is visited.
-use Rattle.std.proofs.Common.{ℕ, Bool, true, eqb, ltb, cond, not, inl, inr, ◌⊎◌, List, [], ◌∷◌, ◌≡◌, ◌≢◌, ◌+◌, ◌-◌, ◌*◌, ◌%◌, ◌^◌, ◌<◌, ◌≤◌, length, drop, get_or, add-one, drop-cons, refl, sym, ◌∙◌, ap, arith, ⊎_elim}
+use Rattle.std.proofs.Common.{ℕ, Bool, true, eqb, ltb, cond, inl, inr, ◌⊎◌, List, [], ◌∷◌, ◌≡◌, ◌≢◌, ◌+◌, ◌-◌, ◌*◌, ◌%◌, ◌^◌, ◌<◌, ◌≤◌, length, drop, get_or, add-one, drop-cons, refl, sym, ◌∙◌, ap, arith, ⊎_elim}
 use Rattle.std.specs.Int.{w64, trailing_zeros}
-use Rattle.std.proofs.lemmas.Bool.{cases_lt, ltb-true, ltb-false, eqb-false, eq-eqb, ne_eqb, and_parts, and_right, not-true}
+use Rattle.std.proofs.lemmas.Bool.{ltb-true, ltb-false, eq-eqb, ne_eqb, and_right}
 use Rattle.std.proofs.lemmas.Bool.Decides.{nat_tests}
+use Rattle.std.proofs.lemmas.Grind.{common_steps}
 use Rattle.std.proofs.Math.ListN.{set}
 use Rattle.std.proofs.lemmas.List.{length-drop, get_or-set_same, get_or-set_other}
 use Rattle.sand_model.specs.Grid.{Grid, sites}
@@ -10,7 +11,7 @@ use Rattle.sand_model.specs.Sand.{one_at, topplings}
 use Rattle.sand_model.specs.Lists.{Lists, one_if}
 use Rattle.sand_model.specs.IndexLists.{ListView, Joins}
 use Rattle.sand_model.proofs.IndexLists.{longer, kept_before, waiting_from}
-use Rattle.sand_model.proofs.Lists.{lists_pop, lists_from, lists_length, none_passes, front_passes}
+use Rattle.sand_model.proofs.Lists.{lists_from, lists_length, none_passes, front_passes}
 use Rattle.sand_model.proofs.SumsBelow.{sum_below_same, sum_below-add, one_at_same, one_at_other}
 use Rattle.sand_model.proofs.Bounds.{at_most_sum_below, at_most_all}
 use Rattle.sand_tiles.specs.declared.tile.Tile.{Tile}
@@ -83,10 +84,8 @@ front_of : (n position next k : ℕ) (p : ℕ → Bool) (list : List ℕ)
     → (p k ≡ true) × Lists n (but k p) (drop next list)
 front_of n position next k p list all less more is =
     let whole : drop position list ≡ k ∷ drop next list = rw (more, add-one, is) (drop-cons list position 0 less) in
-    let whole' = rw whole at all in (
-      front_passes n p (drop next list) k whole',
-      lists_pop n p (but k p) (drop next list) k whole' (rw (eq-eqb k k refl)) (λ j l ne. rw (ne_eqb j k ne)),
-    )
+    let whole' = rw whole at all in
+    (front_passes n p (drop next list) k whole', grind (arith, nat_tests, common_steps))
 
 -- before the first turn no tile waits
 pub none_wait : (n k : ℕ) (τ : ℕ → Tile) → IsNoneDue τ → Lists n (but k (waits τ)) []
@@ -97,9 +96,9 @@ none_wait n k τ none = lists_from n (but k (waits τ)) []
 pub none_left : (ts : List Tile) (n : ℕ) → length ts ≡ n → Lists n (waits (tile_at ts)) [] → IsNoneDue (tile_at ts)
 none_left ts n each none m p low = entry_each blank (λ i (t : Tile). bit t.due p ≡ 0) ts n each
     (λ i less.
-    let a = (tile_at ts i).due in
-    let quiet = ltb-false 0 (a % 2 ^ 64) (none_passes n (waits (tile_at ts)) none i less) in
-    sym (cut a p low) ∙ ap (λ w. bit w p) (let e : a % 2 ^ 64 ≡ 0 = omega arith in e) ∙ bit_none p)
+    let quiet = ltb-false 0 ((tile_at ts i).due % 2 ^ 64) (none_passes n (waits (tile_at ts)) none i less) in
+    let e : (tile_at ts i).due % 2 ^ 64 ≡ 0 = omega arith in
+    sym (cut (tile_at ts i).due p low) ∙ rw e (bit_none p))
     (λ i past. bit_none p) m
 
 -- ---- the tiles with sites that have toppled
@@ -124,7 +123,7 @@ pub first_kept : (n k : ℕ) (t : Tile) (τ : ℕ → Tile) → ((m : ℕ) → I
 first_kept n k t τ clear inside = record {
   listed = cond_each (λ m x. IsClear x ⊎ Keeps (k ∷ []) 1 m) τ k t (inr (0, omega arith, omega arith, refl))
       (λ m ne. inl (clear m));
-  on_board = λ i less. let e = ap (λ j. get_or (k ∷ []) j 0) (let z : i ≡ 0 = omega arith in z) in omega arith;
+  on_board = λ i less. let e : i ≡ 0 = omega arith in rw e inside;
 }
 
 -- a tile whose turn has come is written behind them if no site of it has toppled, and is visited
@@ -147,8 +146,7 @@ keep_one {n} {kept} {next} {τ} {list} {t} k new all inside less read fits is =
             (λ (at : Keeps list kept k). inr (stays k at))
             (all.listed k))
             (λ m ne. ⊎_elim inl (λ (at : Keeps list kept m). inr (stays m at)) (all.listed m));
-        on_board = λ i below. ⊎_elim (λ (before : i < kept). omega (arith, old i before, all.on_board i before))
-            (λ (last : kept ≤ i). let e : i ≡ kept = omega arith in rw (e, own) inside) (cases_lt i kept);
+        on_board = λ i below. let before = all.on_board i in grind (arith, nat_tests, common_steps);
       },
       range.1,
     )
@@ -310,5 +308,5 @@ module _ {g : Grid} {site : ℕ} {h free : ℕ → ℕ} where
         let one = next_one (omega arith) in
         let two =
         front_of (tiles g) (position + 1) (position + 2) k (but j (waits τ)) list one.1 less (omega arith) is' in
-        let parts = and_parts (not (eqb k j)) (waits τ k) two.0 in
-        (λ e. eqb-false k j (not-true (eqb k j) parts.0) (sym e), one.0, has_turn k board on.turn parts.1, two.1)
+        let parts : (j ≢ k) × (waits τ k ≡ true) = (λ e. grind (arith, nat_tests), grind (arith, nat_tests)) in
+        (parts.0, one.0, has_turn k board on.turn parts.1, two.1)

@@ -1,21 +1,19 @@
 -- Heights and an odometer by site that follow what topples on tiles.
-use Rattle.std.proofs.Common.{ℕ, List, Option, None, get_or, true, refl, ◌≡◌, ◌≢◌, ◌+◌, ◌*◌, ◌/◌, ◌%◌, ◌<◌, ◌≤◌, sym, ◌∙◌, ap, arith}
+use Rattle.std.proofs.Common.{ℕ, List, get_or, refl, ◌≡◌, ◌≢◌, ◌+◌, ◌*◌, ◌<◌, ◌≤◌, sym, ◌∙◌, arith}
 use Rattle.std.proofs.lemmas.Bool.Decides.{nat_tests}
-use Rattle.sand_model.specs.Grid.{Grid, sites, places}
-use Rattle.sand_model.specs.Sand.{flow, one_at, value_at}
-use Rattle.sand_model.proofs.Flow.{flow_same, flow-add, flow-scale, four_places}
+use Rattle.sand_model.specs.Grid.{Grid, sites}
+use Rattle.sand_model.specs.Sand.{one_at}
+use Rattle.sand_model.proofs.Flow.{flow_same, flow-add}
 use Rattle.sand_tiles.specs.Places.{bit}
 use Rattle.sand_tiles.specs.Counts.{Count, counted}
 use Rattle.sand_tiles.proofs.Bits.{bit_le}
-use Rattle.sand_fronts.specs.declared.reach.Spot.{Spot}
 use Rattle.sand_fronts.specs.declared.counts.Counts.{Counts}
 use Rattle.sand_fronts.specs.Boards.{counts_of, AreCleared}
-use Rattle.sand_fronts.specs.Reaching.{corner_of}
-use Rattle.sand_fronts.specs.Tiling.{tile_of, place_of, is_site, site_on}
+use Rattle.sand_fronts.specs.Tiling.{tile_of, place_of}
 use Rattle.sand_fronts.specs.WrittenBack.{risen, AreLow, Follows}
 use Rattle.sand_fronts.proofs.Gained.{changed_each}
 use Rattle.sand_fronts.proofs.Reached.{IsTaken}
-use Rattle.sand_fronts.proofs.OnTiles.{place_below, there_again, same_site}
+use Rattle.sand_fronts.proofs.OnTiles.{place_below, same_site}
 use Rattle.sand_fronts.proofs.Sums.{flow_none}
 
 -- ---- heights that follow an odometer
@@ -41,18 +39,6 @@ follows_more {g} {h} {k} {l} {u} {v} {w} one two = record {
   low = two.low;
 }
 
--- one site topples, and its four places gain one after another
-pub follows_one : (g : Grid) (site t : ℕ) (u v : List ℕ) (ps : List (Option ℕ)) (j : ℕ)
-    → ps ≡ places g site → site < sites g → j < sites g
-    → ((i : ℕ) → get_or v i 0 ≡ get_or u i 0 + t * one_at site i)
-    → flow g (risen u v) j ≡ t * value_at (λ m. one_at m j) (get_or ps 0 None)
-    + t * value_at (λ m. one_at m j) (get_or ps 1 None) + t * value_at (λ m. one_at m j) (get_or ps 2 None)
-    + t * value_at (λ m. one_at m j) (get_or ps 3 None)
-follows_one g site t u v ps j around inside there counts =
-    let same = flow_same g (risen u v) (λ i. t * one_at site i) (λ i m. omega (arith, counts i)) j there in
-    let four = ap (λ m. t * m) (four_places g site j ps around inside there) in
-    omega (arith, flow-scale g t (one_at site) j)
-
 -- ---- place by place
 
 -- the places of a tile that are no longer in the rest have been written
@@ -74,23 +60,6 @@ pub record IsNext (g : Grid) (k place rest next site : ℕ) : Type 0 where
   pub inside : site < sites g
   pub tile : tile_of g site ≡ k
   pub at_place : place_of g site ≡ place
-
-pub next_site : {g : Grid} {k place set rest next : ℕ} {c : Count} {u v : List ℕ} (site : ℕ) (corner : Spot)
-    → TileWritten g k c set rest u v → ((p : ℕ) → p < 64 → bit set p ≡ 1 → is_site g k p ≡ true)
-    → IsTaken rest next place → corner ≡ corner_of g k
-    → site ≡ (corner.row + place / 8) * g.width + (corner.column + place % 8) → IsNext g k place rest next site
-unfolding site_on
-next_site {g} {k} {place} {set} site corner before at gone is there =
-    let t = there_again g k place gone.inside (at place gone.inside
-    (omega (arith, bit_le set place, before.within_set place gone.inside, gone.was))) in
-    let same : site ≡ site_on g k place = there
-    ∙ ap (λ (s : Spot). (s.row + place / 8) * g.width + (s.column + place % 8)) is in
-    record {
-      taken = gone;
-      inside = rw same t.0;
-      tile = rw same t.1;
-      at_place = rw same t.2;
-    }
 
 pub tile_more : {g : Grid} {k place set rest next site : ℕ} {c : Count} {u v : List ℕ} (w : List ℕ)
     → TileWritten g k c set rest u v → IsNext g k place rest next site

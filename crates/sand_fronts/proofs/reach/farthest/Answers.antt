@@ -1,12 +1,13 @@
-use Rattle.std.proofs.Common.{cond, min, ◌/◌, ◌∙◌, ap, arith}
-use Rattle.sand_model.specs.Grid.{joins}
-use Rattle.sand_fronts.proofs.Reached.{within_farthest}
+use Rattle.std.proofs.Common.{◌+◌, ◌/◌, ◌%◌, ◌≤◌, arith}
+use Rattle.std.specs.Int.{abs_diff}
 use Rattle.sand_fronts.proofs.reach.farthest.Goals as goal
 
 pub returns : goal.returns
 returns c p low =
-    within_farthest c.args.shape c.args.from c.args.corner p c.max-across.result c.shorter.result c.max-down.result low
-    (omega (arith, c.abs_diff.ensures, c.abs_diff-2.ensures, c.max-across.ensures))
-    (omega (arith, c.abs_diff-3.ensures, c.abs_diff-4.ensures, c.max-down.ensures))
-    (c.shorter.ensures ∙ ap (λ w. cond (joins c.args.shape.edge) (min c.max-across.result (w / 2)) c.max-across.result)
-    c.width.ensures.value)
+    let across : abs_diff c.args.from.column (c.args.corner.column + p % 8) ≤ c.max-across.result =
+    omega (arith, c.abs_diff.ensures, c.abs_diff-2.ensures, c.max-across.ensures) in
+    let down : abs_diff c.args.from.row (c.args.corner.row + p / 8) ≤ c.max-down.result =
+    omega (arith, c.abs_diff-3.ensures, c.abs_diff-4.ensures, c.max-down.ensures) in
+    let wide = c.width.ensures.value in
+    let near = c.shorter.ensures in
+    grind arith

@@ -2,11 +2,11 @@ use Rattle.std.proofs.Common.{w64, refl, ◌≡◌, ◌∙◌, ap, arith}
 use Rattle.std.specs.Prelude.{bit_xor}
 use Rattle.std.specs.Int.{trailing_zeros}
 use Rattle.sand_tiles.specs.Places.{bit}
-use Rattle.sand_tiles.proofs.Bits.{bit_none}
-use Rattle.sand_fronts.specs.Tiling.{place_of}
-use Rattle.sand_fronts.proofs.OnTiles.{place_below}
+use Rattle.sand_tiles.proofs.Bits.{bit_le, bit_none}
+use Rattle.sand_fronts.specs.Tiling.{place_of, site_on}
+use Rattle.sand_fronts.proofs.OnTiles.{place_below, there_again}
 use Rattle.sand_fronts.proofs.Reached.{taken, fewer_left}
-use Rattle.sand_fronts.proofs.WrittenBack.{follows_none, follows_more, IsNext, next_site, tile_more}
+use Rattle.sand_fronts.proofs.WrittenBack.{follows_none, follows_more, IsNext, tile_more}
 use Rattle.sand_fronts.proofs.written_back.write_tile.Goals.{After-site_in-site}
 use Rattle.sand_fronts.proofs.written_back.write_tile.Goals as goal
 
@@ -22,12 +22,20 @@ places-init c = record {
   follows = follows_none c.args.shape c.args.heights.now c.args.odometer.now c.requires.low;
 }
 
+-- the next place, and its site
 next : (c : After-site_in-site) → IsNext c.args.shape c.args.k (trailing_zeros w64 c.places.rest) c.places.rest
     (bit_xor c.places.rest c.set_of-rest.result) c.site_in-site.result
-next c = next_site c.site_in-site.result c.corner-corner.result c.places.invariant.written c.requires.at_sites
-    (taken c.places.rest c.set_of-rest.result (omega (arith, c.places-test.true))
-    (omega (arith, c.places.auto.rest-fits)) c.set_of-rest.ensures)
-    c.corner-corner.ensures.value c.site_in-site.ensures
+unfolding site_on
+next c =
+    let p = trailing_zeros w64 c.places.rest in
+    let gone = taken c.places.rest c.set_of-rest.result (omega (arith, c.places-test.true))
+    (omega (arith, c.places.auto.rest-fits)) c.set_of-rest.ensures in
+    let has = c.requires.at_sites p gone.inside
+    (omega (arith, bit_le c.args.set p, c.places.invariant.written.within_set p gone.inside, gone.was)) in
+    let there = there_again c.args.shape c.args.k p gone.inside has in
+    let same : c.site_in-site.result ≡ site_on c.args.shape c.args.k p =
+    rw (c.site_in-site.ensures, c.corner-corner.ensures.value) refl in
+    record { taken = gone; inside = rw same there.0; tile = rw same there.1; at_place = rw same there.2 }
 
 pub write_site-requires-clause-site : goal.write_site-requires-clause-site
 write_site-requires-clause-site c = (next (goal.at.write_site-requires-clause-site c).After-site_in-site).inside

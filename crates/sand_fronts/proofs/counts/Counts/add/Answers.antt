@@ -1,7 +1,6 @@
 use Rattle.std.proofs.Common.{refl, arith}
 use Rattle.std.specs.Vec.{with_item}
-use Rattle.std.proofs.lemmas.List.{get_or_read}
-use Rattle.sand_tiles.specs.Counts.{no_recent}
+use Rattle.std.proofs.lemmas.Grind.{common_steps}
 use Rattle.sand_tiles.proofs.Bits.{bit_le}
 use Rattle.sand_fronts.specs.Boards.{AddsSet}
 use Rattle.sand_fronts.proofs.Counted.{adds_at, adds_none}
@@ -10,10 +9,8 @@ use Rattle.sand_fronts.proofs.counts.Counts.add.Goals as goal
 
 adds : (c : After-count_set-is_full) → AddsSet c.args.k c.args.set c.args.self.now
     (record c.args.self.now { each = with_item c.args.self.now.each c.args.k c.count_set-is_full.new.recent })
-adds c =
-    let was = get_or_read c.args.self.now.each.items c.args.k _ c.requires.tile c.index_mut.ensures.value no_recent in
-    adds_at c.args.self.now c.args.self.now.spilled c.args.k c.args.set _ c.requires.tile refl
-    (λ p low. rw (← was) (omega (arith, c.count_set-is_full.ensures.each p low))) (λ m p ne low. refl)
+adds c = adds_at c.args.self.now c.args.self.now.spilled c.args.k c.args.set _ c.requires.tile refl
+    (λ p low. grind (arith, common_steps, c.count_set-is_full.ensures.each p low)) (λ m p ne low. refl)
 
 pub spill-requires-clause-bound : goal.spill-requires-clause-bound
 spill-requires-clause-bound c p low =

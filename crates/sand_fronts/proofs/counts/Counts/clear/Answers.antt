@@ -1,5 +1,6 @@
 use Rattle.std.proofs.Common.{ℕ, List, [], replicate, refl, arith}
-use Rattle.std.proofs.lemmas.List.{get_or-set_same, get_or-set_other, get_or-replicate, get_or_past}
+use Rattle.std.proofs.lemmas.Grind.{common_steps}
+use Rattle.std.proofs.lemmas.List.{get_or-set_same, get_or-set_other, get_or-replicate}
 use Rattle.sand_fronts.proofs.Counted.{cleared_at}
 use Rattle.sand_fronts.proofs.counts.Counts.clear.Goals as goal
 
@@ -13,6 +14,5 @@ returns-then-k-len c =
     (λ m ne. get_or-set_other ss c.args.k m zero [] ne)
 
 pub returns-else-k-len : goal.returns-else-k-len
-returns-else-k-len c = cleared_at c.args.self.now _ c.args.k c.requires refl
-    (λ p low. rw (get_or_past {X = List ℕ} c.args.self.now.spilled.items c.args.k [] (omega (arith, c.if-k-len.false))))
+returns-else-k-len c = cleared_at c.args.self.now _ c.args.k c.requires refl (λ p low. grind (arith, common_steps))
     (λ m ne. refl)
