@@ -1,6 +1,7 @@
 pub mod Answered
 pub mod Chunks
 pub mod Found
+pub mod HandleSteps
 pub mod Near
 pub mod Records
 pub mod Rows
@@ -8,5 +9,3 @@ pub mod SettledAt
 pub mod Sites
 pub mod Unfit
 mod PartsSteps
-mod DriveHandleSteps
-mod PassHandleSteps

@@ -6,7 +6,6 @@ use Rattle.sand_group.specs.Group.{IsSum}
 use Rattle.sand_group.specs.Recurrence.{IsRecurrent}
 use Rattle.sand_c.specs.declared.arguments.Sides.{Sides}
 use Rattle.sand_c.specs.declared.faults.Fault.{Fault}
-use Rattle.sand_c.specs.declared.faults.Fault.TheVariants.{Memory}
 use Rattle.sand_c.specs.Arguments.{pile_on, pile_with, ◌>>=◌}
 use Rattle.sand_c.specs.Unfit.{IsUnfit}
 
@@ -15,10 +14,10 @@ abbrev pub adding_of : Sides → List ℕ → List ℕ → Result (PileView × P
 adding_of s heights others =
     pile_with s heights (length others) >>= λ p. pile_on p.grid others >>= λ q. Ok (p, q)
 
--- a sum fails: its arguments have a fault, or memory runs out, or the first pile is not recurrent, or the second is not
+-- a sum fails: its arguments have a fault, or the first pile is not recurrent, or the second is not, or memory runs out
 abbrev pub AddFails : Fault → Result (PileView × PileView) Fault → Type 0
 AddFails fault (Err e) = fault ≡ e
-AddFails fault (Ok (p, q)) = (fault ≡ Memory) ⊎ (IsUnfit p fault ⊎ (IsRecurrent p.grid (height_of p) × IsUnfit q fault))
+AddFails fault (Ok (p, q)) = IsUnfit p fault ⊎ (IsRecurrent p.grid (height_of p) × IsUnfit q fault)
 
 -- the arguments are two recurrent piles, and what was written is their sum
 pub record IsAdding (meaning : Result (PileView × PileView) Fault) (after : List ℕ) : Type 0 where

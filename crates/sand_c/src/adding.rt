@@ -14,6 +14,7 @@ use sand_model::Shape;
 use std::alloc::Global;
 
 // The sum of two recurrent piles with these heights.
+#[tactic(auto, using(crate::proofs::Unfit::out_of_memory))]
 fn sum_on(alloc: Global, shape: Shape, heights: &[u64], others: &[u64]) -> Result<Recurrent, Fault>
     requires heights { length heights.now ≡ sites shape }
     requires others { length others.now ≡ sites shape }

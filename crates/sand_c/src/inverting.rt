@@ -12,6 +12,7 @@ use sand_group::{Recurrent, inverse};
 use std::alloc::Global;
 
 // The inverse of the pile in the arguments.
+#[tactic(auto, using(crate::proofs::Unfit::out_of_memory))]
 fn inverse_of(alloc: Global, sides: Sides, heights: &[u64]) -> Result<Recurrent, Fault>
     ensures inverted { IfOk result (λ c. IsInverting (element_of sides heights.now) c.heights) }
     ensures len { IfOk result (λ c. length c.heights ≡ length heights.now) }

@@ -12,6 +12,7 @@ use sand_group::{Recurrent, multiple};
 use std::alloc::Global;
 
 // The n-fold sum of the pile in the arguments.
+#[tactic(auto, using(crate::proofs::Unfit::out_of_memory))]
 fn multiple_of(alloc: Global, sides: Sides, heights: &[u64], n: u64) -> Result<Recurrent, Fault>
     ensures multiplied { IfOk result (λ c. IsMultiplying (element_of sides heights.now) n c.heights) }
     ensures len { IfOk result (λ c. length c.heights ≡ length heights.now) }

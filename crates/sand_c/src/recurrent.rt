@@ -1,6 +1,6 @@
 //! The elements of the group: recurrent piles.
 
-ghost use Rattle.std.specs.Prelude.{◌≡◌, ◌≤◌, ◌⊎◌, ◌↔◌, length, sum, Ok, IfOk, IfErr, OnErr, IsOk};
+ghost use Rattle.std.specs.Prelude.{◌≡◌, ◌≤◌, ◌↔◌, length, sum, Ok, IfOk, IfErr, OnErr, IsOk};
 ghost use Rattle.sand_model.specs.Grid.{sites};
 ghost use Rattle.sand_model.specs.Piles.{height_of, most_grains};
 ghost use Rattle.sand_group.specs.Recurrence.{IsRecurrent};
@@ -14,13 +14,12 @@ use sand_model::{Pile, Shape};
 use std::alloc::Global;
 
 /// The recurrent pile with these heights.
-#[tactic(auto, using(crate::proofs::Unfit::unfit))]
+#[tactic(auto, using(crate::proofs::Unfit::unfit, crate::proofs::Unfit::out_of_memory))]
 pub(crate) fn recurrent_on(alloc: Global, shape: Shape, heights: &[u64]) -> Result<Recurrent, Fault>
     requires len { length heights.now ≡ sites shape }
     requires limit { sum heights.now ≤ most_grains }
     ensures made { IfOk result (λ c. c ≡ record { grid = shape; heights = heights.now }) }
-    ensures unfit { IfErr result
-        (λ e. (e ≡ Fault.Memory) ⊎ IsUnfit (record { grid = shape; heights = heights.now }) e) }
+    ensures unfit { IfErr result (λ e. IsUnfit (record { grid = shape; heights = heights.now }) e) }
 {
     let Ok(pile) = Pile::new(alloc, shape, heights) else {
         return Err(Fault::Memory);

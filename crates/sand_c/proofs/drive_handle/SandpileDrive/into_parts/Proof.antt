@@ -14,7 +14,7 @@ use contract.Running.{tables}
 use denote.Exit.{yes}
 use denote.Param.{layout}
 use denote.RattleType.{RattleType, owns}
-use denote.Signature.{types_at, type_at}
+use denote.Signature.{Slot, plain, types_at, type_at}
 use denote.RawPtr.{Ptr, block_ptr, null_ptr, tests_null}
 use denote.Steps.{nothing}
 use denote.Triple.Walked.{says, Stays, stay_dropped, walk_of, ends_at, Goes-dropped}
@@ -24,10 +24,13 @@ use Rattle.core.proofs.option.Made.{Some-of, none_of}
 use Rattle.core.specs.declared.option.Option.TheVariants.{None, Some}
 use Rattle.std.proofs.raw_atomic.Walks.{proved_at}
 use Rattle.std_alloc.proofs.ResultValues.{and_tt}
-use Rattle.std_alloc.proofs.BoxSteps.Form.{D, box_typed}
+use Rattle.std_alloc.proofs.BoxSteps.Form.{Bx, D, box_typed}
 use Rattle.std_alloc.proofs.BoxSteps.Form as box
 use Rattle.std_alloc.proofs.BoxSteps.Steps.{box_in}
-use Rattle.sand_c.proofs.DriveHandleSteps.{E, ThePart, FromHandle, FromHeap, word, handle_out, either}
+use Rattle.sand_c.proofs.HandleSteps.{FromHeap, either, handle_out, in_heap, parts_of, word}
+use Rattle.sand_c.specs.contracts.drive.Drive.{the_row as Held}
+use Rattle.sand_c.proofs.drive.Drive.TheLaws as held
+use Rattle.sand_c.specs.contracts.drive_handle.SandpileDrive as Handle
 use Rattle.sand_c.specs.contracts.drive_handle.SandpileDrive.into_parts.{ended, clauses}
 use Rattle.sand_c.specs.contracts.drive_handle.SandpileDrive.into_parts.Key.{name as #self}
 use Rattle.sand_c.proofs.drive_handle.SandpileDrive.into_parts.Statement.{statement}
@@ -35,6 +38,8 @@ use Rattle.sand_c.proofs.drive_handle.SandpileDrive.into_parts.Code as code
 
 pub into_parts_spec : {M : Type 1} → statement M
 into_parts_spec 𝓤 𝓛 𝓜 𝓡 wired =
+    let E : Bx = in_heap Held held.the_row_laws in let ThePart : RattleType = parts_of Held in
+    let FromHandle : Slot 0 = plain (λ _. Handle.the_row) in
     let H = 𝓛.H in let 𝓣 = tables 𝓤 H 𝓜 𝓡 𝓡.env in let fn = code.function in
     let En = ended in let c = clauses 𝓛 𝓜.mem 𝓡.returns in
     let hs : Stays En.signature.params En.kept = (stay_dropped FromHandle yes, (stay_dropped FromHeap yes, tt)) in
@@ -43,12 +48,12 @@ into_parts_spec 𝓤 𝓛 𝓜 𝓡 wired =
     let Out : RattleType = type_at En.signature.result z.0.0 in
     let Post : Val → SProp 𝓤 = (walk_of 𝓛 En hs c).post z in let Run : List Val → SProp 𝓤 = λ ws. WpFn 𝓤 H 𝓣.C 𝓣.Λ fn ws Post in
     qed 𝓛 ((‵ ftrue ⊛ ‵ (owns (types_at En.signature.params z.0.0) z.0.3 z.0.4)) ∷ raw ((c z.0.0 z.0.3).requires z.1) ∷ []) ∵ split ! $ drop ! $ fsplit ! $
-    handle_out ! h vs (λ is_vs. move ! (1 ∷ []) $ fsplit ! $ handle_tells E.al ! a us (λ e is_us fits. move ! (2 ∷ 0 ∷ []) $
+    handle_out Held Handle.the_type.name ! h.at h.held vs (λ is_vs. move ! (1 ∷ []) $ fsplit ! $ handle_tells E.al ! a us (λ e is_us fits. move ! (2 ∷ 0 ∷ []) $
     -- [what the pointer owns; the allocator; true; what is required]
     let runs : (p : Ptr) → h.at ≡ p → ent 𝓤 (Run (word p ∷ e ∷ [])) (Run (vs ++ (us ++ []))) =
     λ p at. (let is = is_vs ∙ ap (λ (q : Ptr). word q ∷ []) at in
     subst (λ (q : List Val × List Val). ent 𝓤 (Run (word p ∷ e ∷ [])) (Run (q.0 ++ (q.1 ++ [])))) (λ i. (sym is i, sym is_us i)) (id⊢ 𝓤 _)) in
-    either ! a h.at h.held
+    either Held ! a h.at h.held
     (λ at none. drop ! $ drop ! $ drop ! $ suffices ! (Run (word null_ptr ∷ e ∷ [])) (runs null_ptr at) $
     enter ! 𝓣.C 𝓣.Λ fn (word null_ptr ∷ e ∷ []) Post $ alloc_all ! (λ l. pass_all ! refl ((tt, (record { fits = lit< tt }, tt)), (fits, tt)) $ let Ev = env fn.locals l in
     sets ! (of_opd ! (get_in ! (fld ! refl (stop !)) (sub ! 0 refl (whole !)))) refl (tt, record { fits = lit< tt }) $

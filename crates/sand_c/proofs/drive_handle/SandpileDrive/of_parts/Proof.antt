@@ -12,15 +12,18 @@ use contract.Running.{tables}
 use denote.Exit.{yes}
 use denote.RattleType.{owns}
 use denote.RawPtr.{block_ptr}
-use denote.Signature.{types_at}
+use denote.Signature.{Slot, plain, types_at}
 use denote.Steps.{nothing}
 use denote.Triple.Walked.{says, Stays, stay_dropped, walk_of, ends_at, Goes-dropped}
 use Rattle.core.specs.declared.option.Option.TheVariants.{Some}
 use Rattle.std.proofs.raw_atomic.Walks.{proved_at}
-use Rattle.std_alloc.proofs.BoxSteps.Form.{D, B, box_typed}
+use Rattle.std_alloc.proofs.BoxSteps.Form.{Bx, D, B, box_typed}
 use Rattle.std_alloc.proofs.BoxSteps.Form as box
 use Rattle.std_alloc.proofs.BoxSteps.Steps.{box_out}
-use Rattle.sand_c.proofs.DriveHandleSteps.{E, FromParts, word, handle_in, Held}
+use Rattle.sand_c.proofs.HandleSteps.{handle_in, in_heap, parts_of, word}
+use Rattle.sand_c.specs.contracts.drive.Drive.{the_row as Held}
+use Rattle.sand_c.proofs.drive.Drive.TheLaws as held
+use Rattle.sand_c.specs.contracts.drive_handle.SandpileDrive as Handle
 use Rattle.sand_c.specs.Handles.{owns_at}
 use Rattle.sand_c.specs.contracts.drive_handle.SandpileDrive.of_parts.{ended, clauses}
 use Rattle.sand_c.specs.contracts.drive_handle.SandpileDrive.of_parts.Key.{name as #self}
@@ -29,6 +32,7 @@ use Rattle.sand_c.proofs.drive_handle.SandpileDrive.of_parts.Code as code
 
 pub of_parts_spec : {M : Type 1} → statement M
 of_parts_spec 𝓤 𝓛 𝓜 𝓡 wired =
+    let E : Bx = in_heap Held held.the_row_laws in let FromParts : Slot 0 = plain (λ _. parts_of Held) in
     let H = 𝓛.H in let 𝓣 = tables 𝓤 H 𝓜 𝓡 𝓡.env in let fn = code.function in
     let En = ended in let c = clauses 𝓛 𝓜.mem 𝓡.returns in
     let hs : Stays En.signature.params En.kept = (stay_dropped FromParts yes, tt) in
@@ -39,7 +43,7 @@ of_parts_spec 𝓤 𝓛 𝓜 𝓡 wired =
     use1 𝓛 (‵ ((B E).own_val v z.0.4.0)) (id⊢ 𝓤 _) $
     box_out E ! v z.0.4.0 (λ b o h at ws fits. fjoin ! $ keep ! (0 ∷ []) $
     let p = block_ptr b o in let w = box.word E h b o in
-    use1 𝓛 (‵ (owns_at Held p (Some v.value))) (id⊢ 𝓤 _) $ handle_in ! p (Some v.value) $
+    use1 𝓛 (‵ (owns_at Held p (Some v.value))) (id⊢ 𝓤 _) $ handle_in Held Handle.the_type.name ! p (Some v.value) $
     suffices ! (Run (w ∷ [])) (subst (λ (us : List Val). ent 𝓤 (Run (w ∷ [])) (Run us)) (sym (λ i. ws i ++ [])) (id⊢ 𝓤 (Run (w ∷ [])))) $
     enter ! 𝓣.C 𝓣.Λ fn (w ∷ []) Post $ alloc_all ! (λ l. pass_all ! refl (box_typed E h b o fits, tt) $
     sets ! (of_opd ! (get_in ! (fld ! refl (stop !)) (sub ! 0 refl (whole !)))) refl (tt, tt) $

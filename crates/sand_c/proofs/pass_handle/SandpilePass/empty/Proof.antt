@@ -11,7 +11,9 @@ use denote.Triple.Entry.{on_entry}
 use denote.Triple.Walked.{walk_of, says, ends_at}
 use Rattle.core.specs.declared.option.Option.TheVariants.{None}
 use Rattle.std.proofs.raw_atomic.Walks.{proved}
-use Rattle.sand_c.proofs.PassHandleSteps.{word, handle_in}
+use Rattle.sand_c.proofs.HandleSteps.{handle_in, word}
+use Rattle.sand_c.specs.contracts.owned_pass.OwnedPass.{the_row as Held}
+use Rattle.sand_c.specs.contracts.pass_handle.SandpilePass as Handle
 use Rattle.sand_c.specs.contracts.pass_handle.SandpilePass.empty as f
 use Rattle.sand_c.proofs.pass_handle.SandpilePass.empty.Statement.{statement}
 use Rattle.sand_c.proofs.pass_handle.SandpilePass.empty.Code as code
@@ -25,6 +27,6 @@ empty_spec 𝓤 𝓛 𝓜 𝓡 wired =
     enter ! _ _ _ _ _ $ alloc_all ! (λ l. pass_all ! refl tt $
     sets ! (agg ! (and_then ! (lit ! tt) (no_more !))) refl (tt, (record { fits = lit< tt }, tt)) $
     returns ! (look_at ! 0 refl) $ free_all ! refl $
-    feq_i ! Ptr null_ptr null_ptr refl $ handle_in ! null_ptr None $
+    feq_i ! Ptr null_ptr null_ptr refl $ handle_in Held Handle.the_type.name ! null_ptr None $
     suffices ! _ (ends_at 𝓛 f.ended tt c y (word null_ptr) (record { at = null_ptr; held = None }) tt tt) $ says ! refl $
     nothing ! $ join ! $ nothing ! $ join ! $ done !))
