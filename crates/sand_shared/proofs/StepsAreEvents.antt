@@ -13,7 +13,7 @@ use Rattle.sand_shared.specs.OpenPile.{OpenPile, nobody, grid_of_terms, holds_si
 use Rattle.sand_shared.specs.Events.{Event, begin, count, split, join, look, unload, deliver, are_for, counted, looked, parent, child, joined, follows, first_pass, unopened, May, after, AllHappen, after_all}
 use Rattle.sand_shared.specs.Record.{IsLast}
 use Rattle.sand_shared.specs.Plays.{Takes}
-use Rattle.sand_shared.specs.Running.{Shows, IsRunning, Stands, Finds, Happened}
+use Rattle.sand_shared.specs.Running.{Shows, IsRunning, Stands, Finds}
 use Rattle.sand_shared.proofs.Lawfulness.{always_lawful, after_all-append, happen_append}
 use Rattle.sand_shared.proofs.WordsShowPile.{stepped_to, shows_load, shows_arrived, shows_unload}
 
@@ -203,13 +203,6 @@ opens t terms = record {
     passes = refl;
   };
 }
-
--- the terms, the pass and the events chosen at the call are those of the step
-pub happened_picked : {t t' : Terms} {b a : ℕ} {ds es : List Event} {v w : View} {n : ℕ}
-    → (t' ≡ t) × (b ≡ a) × (ds ≡ es) → Happened t' b ds v n w
-    → Happened t a es v n w
-happened_picked {v = v} {w = w} {n = n} same =
-    subst (λ (z : Terms × ℕ × List Event). Happened z.0 z.1 z.2 v n w) (λ i. (same.0 i, same.1 i, same.2 i))
 
 -- the heights read when the table is closed are those of the last open pile
 pub last_is : (t : Terms) (a : ℕ) (v : View) (s : State ℕ View) (h : IsRunning t s)

@@ -1,6 +1,6 @@
 -- The table requires of a step: a seat at the table, a word in range, and a step that the rule allows. The words are
 -- those that contracts see; the terms and the events are those chosen at the call.
-use Rattle.std.proofs.Common.{◌≡◌, ℕ, ◌+◌, ◌<◌, List, [], sym, ap, ◌∙◌, subst, arith}
+use Rattle.std.proofs.Common.{◌≡◌, ℕ, ◌+◌, ◌<◌, List, sym, ap, ◌∙◌, subst, arith}
 use Rattle.atomic_table.specs.Table.{Allows}
 use Rattle.atomic_table.specs.declared.shared.Seat.{Seat}
 use Rattle.sand_model.specs.Grid.{Grid, sites}
@@ -15,11 +15,6 @@ use Rattle.sand_shared.specs.Seats.{AreWords, IsSeatAt, StaysSeated}
 
 pub stays_on : {first mid last : Seat ℕ View} → StaysSeated first mid → StaysSeated mid last → StaysSeated first last
 stays_on before after = record { table = after.table ∙ before.table; id = after.id ∙ before.id; bare = after.bare }
-
--- a step leaves the seat at its table, and without slots if it had none
-pub stays_after : {old new : Seat ℕ View} → new.table_id ≡ old.table_id → new.id ≡ old.id → new.me.1 ≡ old.me.1
-    → old.me.1 ≡ [] → StaysSeated old new
-stays_after table id slots bare = record { table = table; id = id; bare = slots ∙ bare }
 
 module _ {key : Terms} {lattice : Grid} {inside now : SharedView}
     (words : AreWords key lattice inside) (is : inside ≡ now) where

@@ -1,8 +1,7 @@
 use Rattle.std.proofs.Common.{◌+◌, ◌%◌, ◌^◌, arith, length}
 use Rattle.sand_shared.specs.Events.{all_draws}
 use Rattle.sand_shared.proofs.EventsInARow.{draws_row}
-use Rattle.sand_shared.proofs.StepsAreEvents.{happened_picked}
-use Rattle.sand_shared.proofs.StepsOnWords.{asks, stays_after}
+use Rattle.sand_shared.proofs.StepsOnWords.{asks}
 use Rattle.sand_shared.proofs.steps.Words.draw.Goals as goal
 
 pub fetch_add-requires : goal.fetch_add-requires
@@ -11,10 +10,3 @@ fetch_add-requires g c =
     asks c.self.invariant c.self.view_is c.requires.seat (all_draws _ ds)
     1 (λ n. (n + length ds) % 2 ^ 64) (omega arith) c.requires.picked
     (draws_row _ _ ds _ _ c.requires.some c.requires.left c.requires.inside)
-
-pub returns-clause-seat : goal.returns-clause-seat
-returns-clause-seat g c =
-    stays_after c.fetch_add.ensures.0 c.fetch_add.ensures.1 c.fetch_add.ensures.2.1 c.requires.seat.bare
-
-pub returns-clause-happened : goal.returns-clause-happened
-returns-clause-happened g c = happened_picked c.requires.picked c.fetch_add.ensures.2.0

@@ -1,8 +1,7 @@
 use Rattle.std.proofs.Common.{◌+◌, ◌%◌, ◌^◌, arith}
 use Rattle.sand_shared.specs.Events.{all_places}
 use Rattle.sand_shared.proofs.EventsInARow.{places_row}
-use Rattle.sand_shared.proofs.StepsAreEvents.{happened_picked}
-use Rattle.sand_shared.proofs.StepsOnWords.{asks, stays_after}
+use Rattle.sand_shared.proofs.StepsOnWords.{asks}
 use Rattle.sand_shared.proofs.steps.Words.place.Goals as goal
 
 pub fetch_add-requires : goal.fetch_add-requires
@@ -13,10 +12,3 @@ fetch_add-requires g c =
     asks c.self.invariant c.self.view_is c.requires.seat (all_places _ i k)
     (i + 2) (λ n. (n + k) % 2 ^ 64) (omega arith) c.requires.picked
     (places_row _ _ i k _ _ c.requires.some c.requires.hand inside)
-
-pub returns-clause-seat : goal.returns-clause-seat
-returns-clause-seat g c =
-    stays_after c.fetch_add.ensures.0 c.fetch_add.ensures.1 c.fetch_add.ensures.2.1 c.requires.seat.bare
-
-pub returns-clause-happened : goal.returns-clause-happened
-returns-clause-happened g c = (c.fetch_add.result, happened_picked c.requires.picked c.fetch_add.ensures.2.0)
