@@ -1,189 +1,148 @@
 -- A drop that is written into lists by site.
-use Rattle.std.proofs.Common.{ℕ, List, length, get_or, ltb, refl, ◌≡◌, ◌+◌, ◌%◌, ◌^◌, ◌<◌, ◌≤◌, sym, ◌∙◌, ap, arith, ⊎_elim, eqb}
+use Rattle.std.proofs.Common.{ℕ, List, length, get_or, ltb, eqb, refl, ◌≡◌, ◌+◌, ◌%◌, ◌^◌, ◌<◌, sym, ◌∙◌, ap, subst, arith}
 use Rattle.std.proofs.Math.ListN.{set}
-use Rattle.std.proofs.lemmas.Bool.{cases_eq, cases_lt, lt-ltb}
-use Rattle.std.proofs.lemmas.List.{get_or-set_same, get_or-set_other, length-set, ext_get_or}
+use Rattle.std.proofs.lemmas.Bool.Decides.{nat_tests}
+use Rattle.std.proofs.lemmas.List.{length-set}
 use Rattle.sand_model.specs.Grid.{Grid, IsGrid, sites}
-use Rattle.sand_model.specs.Sand.{IsSettled, one_at, grains}
+use Rattle.sand_model.specs.Sand.{IsSettled, one_at}
 use Rattle.sand_model.specs.Lists.{one_if}
 use Rattle.sand_model.proofs.Bounds.{at_most_sum_below, topplings_bound, sites_limit}
 use Rattle.sand_model.proofs.Flow.{flow_same}
-use Rattle.sand_model.proofs.Heights.{counted as add_at}
+use Rattle.sand_model.proofs.Lists.{at_most_one}
 use Rattle.sand_model.proofs.Sandpile.{settled_same}
 use Rattle.sand_model.proofs.SumsBelow.{one_at_same, one_at_other}
 use Rattle.sand_tiles.specs.Places.{bit}
 use Rattle.sand_tiles.specs.Counts.{counted}
+use Rattle.sand_fronts.specs.declared.avalanche.Avalanche.{Avalanche}
 use Rattle.sand_fronts.specs.declared.sand.Sand.{Sand}
 use Rattle.sand_fronts.specs.declared.counts.Counts.{Counts}
+use Rattle.sand_fronts.specs.Avalanches.{IsAvalanche}
 use Rattle.sand_fronts.specs.Tiling.{tile_of, place_of}
 use Rattle.sand_fronts.specs.Drops.{heights_on, counted_on}
 use Rattle.sand_fronts.specs.Marking.{AreToppled}
 use Rattle.sand_fronts.specs.Boards.{tiles_of, counts_of, marks_of, grown, CountsSites, HasSettled}
-use Rattle.sand_fronts.specs.WrittenBack.{risen, Follows, IsWrittenBack}
-use Rattle.sand_fronts.proofs.OnTiles.{on_below, on_each, height_low}
+use Rattle.sand_fronts.specs.WrittenBack.{risen, AreLow, Follows, IsWrittenBack}
 use Rattle.sand_fronts.specs.TiledPiles.{TiledView, tiled_view, by_site}
-use Rattle.sand_fronts.proofs.NewPiles.{few_at_sites, by_site_at, by_site_long}
+use Rattle.sand_fronts.proofs.OnTiles.{place_below, on_below, on_each, height_low}
+use Rattle.sand_fronts.proofs.NewPiles.{few_at_sites, by_site_at, by_site_long, by_site_is}
+use Rattle.sand_fronts.proofs.Gained.{set_each}
+use Rattle.sand_fronts.proofs.OnPiles.{avalanche_same}
 use Rattle.sand_fronts.proofs.OneGrain.{calm_settled}
-use Rattle.sand_model.proofs.Lists.{at_most_one}
 use Rattle.sand_fronts.proofs.Sums.{sum_below_most}
 
--- ---- a list of the heights on the tiles
-
-pub record ListsHeights (g : Grid) (s : Sand) (c : Counts) (v : TiledView) (h : List ℕ) : Type 0 where
-  pub view : tiled_view g s c ≡ v
-  pub same : h ≡ v.heights
-
-pub heights_long : {g : Grid} {s : Sand} {c : Counts} {v : TiledView} {h : List ℕ} → ListsHeights g s c v h
-    → length h ≡ sites g
-heights_long {g} {s} lists = ap length (lists.same ∙ ap (λ (w : TiledView). w.heights) (sym lists.view))
-    ∙ by_site_long g (heights_on g (tiles_of s))
-
-pub height_listed : {g : Grid} {s : Sand} {c : Counts} {v : TiledView} {h : List ℕ} → ListsHeights g s c v h → (j : ℕ)
-    → j < sites g → get_or h j 0 ≡ heights_on g (tiles_of s) j
-height_listed {g} {s} lists j l =
-    ap (λ xs. get_or xs j 0) (lists.same ∙ ap (λ (w : TiledView). w.heights) (sym lists.view))
-    ∙ by_site_at g (heights_on g (tiles_of s)) j l
-
-pub site_listed : {g : Grid} {s : Sand} {c : Counts} {v : TiledView} {h : List ℕ} (site : ℕ) → ListsHeights g s c v h
-    → site < sites v.grid → (site < sites g) × (site < length h)
-site_listed site lists inside =
-    let each = heights_long lists in
-    let grid = ap (λ (w : TiledView). sites w.grid) lists.view in (omega arith, omega arith)
-
--- ---- a grain that topples nothing
-
--- h lists the heights on the tiles s, and t has a grain more at the site
-pub record AddsGrain (g : Grid) (site : ℕ) (s t : Sand) (c : Counts) (v : TiledView) (h : List ℕ) : Type 0 where
-  pub lists : ListsHeights g s c v h
-  pub inside : site < sites v.grid
-  pub grain : (j : ℕ) → j < sites g → heights_on g (tiles_of t) j ≡ heights_on g (tiles_of s) j + one_at site j
-
-grain_listed : {g : Grid} {site : ℕ} {s t : Sand} {c : Counts} {v : TiledView} {h : List ℕ} → AddsGrain g site s t c v h
-    → (j : ℕ) → get_or (set h site (get_or h site 0 + 1)) j 0 ≡ get_or h j 0 + one_at site j
-grain_listed {g} {site} {h = h} adds j =
-    let more = add_at site 1 h (set h site (get_or h site 0 + 1)) (site_listed site adds.lists adds.inside).1 refl j in
-    omega arith
-
-pub calm_list : {g : Grid} {site : ℕ} {s t : Sand} {c : Counts} {v : TiledView} {h : List ℕ} → AddsGrain g site s t c v h
-    → set h site (get_or h site 0 + 1) ≡ by_site g (heights_on g (tiles_of t))
-calm_list {g} {site} {t = t} {h = h} adds =
-    let left = heights_on g (tiles_of t) in
-    let each = length-set h site (get_or h site 0 + 1) ∙ heights_long adds.lists in
-    ext_get_or 0 (set h site (get_or h site 0 + 1)) (by_site g left) (each ∙ sym (by_site_long g left))
-    (λ j l.
-    let inside : j < sites g = omega arith in
-    let was = height_listed adds.lists j inside in
-    let is = adds.grain j inside in
-    let now = grain_listed adds j in
-    let at = by_site_at g left j inside in
-    omega arith)
-
-pub calm_in_lists : {g : Grid} {site : ℕ} {s t : Sand} {c : Counts} {v : TiledView} {h : List ℕ} (u : List ℕ)
-    → AddsGrain g site s t c v h
-    → IsSettled g (λ j. get_or h j 0 + one_at site j) (risen u u) (λ j. get_or (set h site (get_or h site 0 + 1)) j 0)
-calm_in_lists {g} {site} {t = t} {h = h} u adds =
-    calm_settled g (λ j. get_or h j 0 + one_at site j) (risen u u) (λ j. get_or (set h site (get_or h site 0 + 1)) j 0)
-    (λ j l. grain_listed adds j) (λ j l. omega arith)
-    (λ j l.
-    let was = height_listed adds.lists j l in
-    let is = adds.grain j l in
-    let now = grain_listed adds j in
-    let low = height_low (tiles_of t (tile_of g j)) (place_of g j) in
-    omega arith)
-
--- ---- a grain that topples its site
-
--- nothing is counted on c, and a grain at a site leads to the counts d
-pub record CountsDrop (g : Grid) (site : ℕ) (s t : Sand) (c d : Counts) : Type 0 where
-  pub sides : IsGrid g
+-- before the drop no topplings are counted, h lists the heights of a pile that contracts see as v, and u an odometer
+pub record Before (g : Grid) (site : ℕ) (s : Sand) (c : Counts) (v : TiledView) (h u : List ℕ) : Type 0 where
+  pub grid : g ≡ v.grid
   pub inside : site < sites g
-  pub at_sites : CountsSites g c
-  pub uncounted : (j : ℕ) → j < sites g → counted_on g (counts_of c) j ≡ 0
-  pub has : HasSettled g (λ j. heights_on g (tiles_of s) j + one_at site j) t c d
-
-grains_few : (g : Grid) (site : ℕ) (s : Sand) → IsGrid g
-    → grains g (λ j. heights_on g (tiles_of s) j + one_at site j) ≤ 262144
-grains_few g site s sides =
-    let each = sum_below_most (sites g) 4 (λ j. heights_on g (tiles_of s) j + one_at site j)
-    (λ j l. let a = height_low (tiles_of s (tile_of g j)) (place_of g j) in let o = at_most_one (eqb site j) in omega arith) in
-    let limit = sites_limit g sides in
-    omega arith
-
-pub few_toppled : (g : Grid) (site : ℕ) (s t : Sand) (c d : Counts) → CountsDrop g site s t c d
-    → (m p : ℕ) → p < 64 → counted (counts_of d m) p < 2 ^ 59
-few_toppled g site s t c d drop m p low =
-    let all = topplings_bound g (λ j. heights_on g (tiles_of s) j + one_at site j) (grown g c d) (heights_on g (tiles_of t))
-    drop.sides (let few = grains_few g site s drop.sides in omega arith) drop.has.settled.toppled in
-    let most = on_below g (grown g c d) m p (2 ^ 54) low
-    (λ j l. let one = at_most_sum_below (sites g) (grown g c d) j l in omega arith) in
-    let none = few_at_sites g (counts_of c) 0 drop.at_sites (λ j l. let z = drop.uncounted j l in omega arith) m p low in
-    let now = drop.has.counted m p low in
-    omega arith
-
--- nothing is counted at a place that is not marked
-pub only_marked : (g : Grid) (site : ℕ) (s t : Sand) (c d : Counts) → CountsDrop g site s t c d
-    → AreToppled g (grown g c d) (marks_of d) → (m p : ℕ) → p < 64 → bit (marks_of d m) p ≡ 0
-    → counted (counts_of d m) p ≡ 0
-only_marked g site s t c d drop marked m p low out =
-    let v = grown g c d in
-    let none = few_at_sites g (counts_of c) 0 drop.at_sites (λ j l. let z = drop.uncounted j l in omega arith) m p low in
-    on_each g m p (λ (r : (ℕ → ℕ) → ℕ). counted (counts_of d m) p ≡ counted (counts_of c m) p + r v
-    → bit (marks_of d m) p ≡ r (λ j. one_if (ltb 0 (v j))) → counted (counts_of d m) p ≡ 0) low
-    (λ j l now is. ⊎_elim
-    (λ (some : 0 < v j). absurd (let one = ap one_if (lt-ltb 0 (v j) some) in omega arith))
-    (λ (zero' : v j ≤ 0). omega arith)
-    (cases_lt 0 (v j)))
-    (λ now is. omega arith) (drop.has.counted m p low) (marked m p low)
-
--- the drop is written into the heights h, which become k with the grain and then l, and into the odometer u, which becomes w
-pub record WritesDrop (g : Grid) (site : ℕ) (s t : Sand) (c d e : Counts) (h k l u w : List ℕ) : Type 0 where
-  pub drop : CountsDrop g site s t c d
+  pub within : site < length h
   pub heights_each : length h ≡ sites g
   pub heights : (j : ℕ) → j < sites g → get_or h j 0 ≡ heights_on g (tiles_of s) j
-  pub grain : k ≡ set h site ((get_or h site 0 + 1) % 4)
-  pub follows : Follows g k l u w
-  pub written : IsWrittenBack g d e u w
+  pub low : AreLow h
+  pub none : (m p : ℕ) → p < 64 → counted (counts_of c m) p ≡ 0
+  pub odometer_each : length u ≡ sites g
+  pub few : (j : ℕ) → j < sites g → get_or u j 0 < 2 ^ 59
 
-pub risen_is : (g : Grid) (site : ℕ) (s t : Sand) (c d e : Counts) (h k l u w : List ℕ)
-    → WritesDrop g site s t c d e h k l u w → (j : ℕ) → j < sites g → grown g c d j ≡ risen u w j
-risen_is g site s t c d e h k l u w all j inside =
-    let added = all.written.added j inside in let none = all.drop.uncounted j inside in omega arith
+pub before : {g : Grid} {site : ℕ} {s : Sand} {c : Counts} {v : TiledView} {h u : List ℕ} → tiled_view g s c ≡ v
+    → CountsSites g c → site < sites v.grid → ((j : ℕ) → get_or v.times j 0 ≡ 0) → h ≡ v.heights → AreLow h
+    → length u ≡ sites v.grid → ((j : ℕ) → j < sites v.grid → get_or u j 0 < 2 ^ 59) → Before g site s c v h u
+before {g} {site} {s} {c} {v} view counts inside none listed low each few =
+    let grid = ap (λ (w : TiledView). sites w.grid) view in
+    let all = listed ∙ ap (λ (w : TiledView). w.heights) (sym view) in
+    let long = ap length all ∙ by_site_long g (heights_on g (tiles_of s)) in
+    record {
+      grid = ap (λ (w : TiledView). w.grid) view;
+      inside = omega arith;
+      within = omega arith;
+      heights_each = long;
+      heights = λ j l. ap (λ xs. get_or xs j 0) all ∙ by_site_at g (heights_on g (tiles_of s)) j l;
+      low = low;
+      none = λ m p less. omega (arith, few_at_sites g (counts_of c) 0 counts (λ j l.
+          let e = ap (λ (w : TiledView). get_or w.times j 0) view in
+          omega (arith, by_site_at g (counted_on g (counts_of c)) j l, none j)) m p less);
+      odometer_each = omega arith;
+      few = λ j l. few j (omega arith);
+    }
 
-with_grain : (site : ℕ) (h k : List ℕ) (j : ℕ) → site < length h → get_or h j 0 ≤ 3
-    → k ≡ set h site ((get_or h site 0 + 1) % 4) → get_or k j 0 ≡ (get_or h j 0 + one_at site j) % 4
-with_grain site h k j inside low is = ⊎_elim
-    (λ (e : site ≡ j).
-    let o = ap (one_at site) (sym e) ∙ one_at_same site in
-    let same = get_or-set_same h site ((get_or h site 0 + 1) % 4) 0 inside in
-    let at = ap (λ xs. get_or xs j 0) is ∙ ap (λ i. get_or (set h site ((get_or h site 0 + 1) % 4)) i 0) (sym e) ∙ same in
-    let first = ap (λ i. get_or h i 0) e in
-    omega arith)
-    (λ (ne : site ≡ j → ⊥).
-    let o = one_at_other site j ne in
-    let other = get_or-set_other h site j ((get_or h site 0 + 1) % 4) 0 (λ e. ne (sym e)) in
-    let at = ap (λ xs. get_or xs j 0) is ∙ other in
-    omega arith)
-    (cases_eq site j)
+-- the drop in the lists: l lists the heights on the tiles t, and the pile has settled as the odometer grew from u to w
+pub record DropsInto (g i : Grid) (site : ℕ) (t : Sand) (h l u w : List ℕ) (a : Avalanche) : Type 0 where
+  pub heights : l ≡ by_site i (heights_on i (tiles_of t))
+  pub settled : IsSettled g (λ j. get_or h j 0 + one_at site j) (risen u w) (λ j. get_or l j 0)
+  pub avalanche : IsAvalanche g site (risen u w) a
 
-pub heights_are : (g : Grid) (site : ℕ) (s t : Sand) (c d e : Counts) (h k l u w : List ℕ)
-    → WritesDrop g site s t c d e h k l u w → (j : ℕ) → j < sites g → get_or l j 0 ≡ heights_on g (tiles_of t) j
-heights_are g site s t c d e h k l u w all j inside =
-    let first = all.heights j inside in
-    let low = height_low (tiles_of s (tile_of g j)) (place_of g j) in
-    let last = height_low (tiles_of t (tile_of g j)) (place_of g j) in
-    let grain = with_grain site h k j
-    (let each = all.heights_each in let here = all.drop.inside in omega arith) (omega arith) all.grain in
-    let gains = all.follows.gains j inside in
-    let flows = flow_same g (grown g c d) (risen u w) (risen_is g site s t c d e h k l u w all) j inside in
-    let balance = all.drop.has.settled.toppled.balance j inside in
-    omega arith
+-- by the grid of the view, and that of the board after the drop
+seen : {g i k : Grid} {site : ℕ} {t : Sand} {h l u w : List ℕ} {a : Avalanche} → g ≡ k → i ≡ g
+    → DropsInto g g site t h l u w a → DropsInto k i site t h l u w a
+seen {g} {i} {k} {site} {t} {h} {l} {u} {w} {a} view shape drops =
+    subst (λ x. DropsInto x i site t h l u w a) view (subst (λ x. DropsInto g x site t h l u w a) (sym shape) drops)
 
-pub settled_in_lists : (g : Grid) (site : ℕ) (s t : Sand) (c d e : Counts) (h k l u w : List ℕ)
-    → WritesDrop g site s t c d e h k l u w
-    → IsSettled g (λ j. get_or h j 0 + one_at site j) (risen u w) (λ j. get_or l j 0)
-settled_in_lists g site s t c d e h k l u w all =
-    settled_same g (λ j. heights_on g (tiles_of s) j + one_at site j) (λ j. get_or h j 0 + one_at site j)
-    (grown g c d) (risen u w) (heights_on g (tiles_of t)) (λ j. get_or l j 0)
-    (λ j inside. let e = all.heights j inside in omega arith)
-    (risen_is g site s t c d e h k l u w all)
-    (λ j inside. sym (heights_are g site s t c d e h k l u w all j inside)) all.drop.has.settled
+-- a list where a site has a grain more, f of whose heights are written
+with_grain : (f : ℕ → ℕ) (site : ℕ) (h : List ℕ) → site < length h → ((j : ℕ) → f (get_or h j 0) ≡ get_or h j 0)
+    → (j : ℕ) → get_or (set h site (f (get_or h site 0 + 1))) j 0 ≡ f (get_or h j 0 + one_at site j)
+with_grain f site h inside same = set_each 0 (λ j x. x ≡ f (get_or h j 0 + one_at site j)) h site
+    (f (get_or h site 0 + 1)) inside (ap (λ n. f (get_or h site 0 + n)) (sym (one_at_same site)))
+    (λ j ne. sym (ap f (omega (arith, one_at_other site j (λ e. ne (sym e)))) ∙ same j))
+
+module _ {g : Grid} {site : ℕ} {s : Sand} {c : Counts} {v : TiledView} {h u : List ℕ}
+    (at : Before g site s c v h u) where
+  -- a grain that topples nothing
+  pub calm_into : (t : Sand) {a : Avalanche}
+      → ((j : ℕ) → j < sites g → heights_on g (tiles_of t) j ≡ heights_on g (tiles_of s) j + one_at site j)
+      → ((y : ℕ → ℕ) → ((j : ℕ) → j < sites g → y j ≡ 0) → IsAvalanche g site y a)
+      → DropsInto v.grid g site t h (set h site (get_or h site 0 + 1)) u u a
+  calm_into t {a} grain calm =
+      let l = set h site (get_or h site 0 + 1) in
+      let now = with_grain (λ n. n) site h at.within (λ j. refl) in
+      let is : (j : ℕ) → j < sites g → get_or l j 0 ≡ heights_on g (tiles_of t) j =
+      λ j less. omega (arith, now j, grain j less, at.heights j less) in
+      seen at.grid refl (record {
+        heights = by_site_is g (heights_on g (tiles_of t)) l (length-set h site _ ∙ at.heights_each) is;
+        settled = calm_settled g (λ j. get_or h j 0 + one_at site j) (risen u u) (λ j. get_or l j 0) (λ j less. now j)
+            (λ j less. omega arith)
+            (λ j less. omega (arith, is j less, height_low (tiles_of t (tile_of g j)) (place_of g j)));
+        avalanche = calm (risen u u) (λ j less. omega arith);
+      })
+
+  -- ---- a grain that topples its site
+
+  module _ {t : Sand} {d : Counts} (has : HasSettled g (λ j. heights_on g (tiles_of s) j + one_at site j) t c d) where
+    pub few_toppled : IsGrid g → (m p : ℕ) → p < 64 → counted (counts_of d m) p < 2 ^ 59
+    few_toppled sides m p low =
+        let y = grown g c d in
+        let start = λ (j : ℕ). heights_on g (tiles_of s) j + one_at site j in
+        let few = sum_below_most (sites g) 4 start
+        (λ j l. omega (arith, height_low (tiles_of s (tile_of g j)) (place_of g j), at_most_one (eqb site j))) in
+        let limit = sites_limit g sides in
+        let all = topplings_bound g start y (heights_on g (tiles_of t)) sides (omega arith) has.settled.toppled in
+        let most = on_below g y m p (2 ^ 54) low (λ j l. omega (arith, at_most_sum_below (sites g) y j l)) in
+        omega (arith, at.none m p low, has.counted m p low)
+
+    -- nothing is counted at a place that is not marked
+    pub only_marked : AreToppled g (grown g c d) (marks_of d) → (m p : ℕ) → p < 64 → bit (marks_of d m) p ≡ 0
+        → counted (counts_of d m) p ≡ 0
+    only_marked marked m p low out =
+        let y = grown g c d in
+        on_each g m p (λ (r : (ℕ → ℕ) → ℕ). counted (counts_of d m) p ≡ counted (counts_of c m) p + r y
+        → bit (marks_of d m) p ≡ r (λ j. one_if (ltb 0 (y j))) → counted (counts_of d m) p ≡ 0) low
+        (λ j l now is. let none = at.none m p low in grind (arith, nat_tests))
+        (λ now is. let none = at.none m p low in omega arith) (has.counted m p low) (marked m p low)
+
+    -- what has toppled is written into the odometer, and what has moved into the heights
+    pub topples_into : {e : Counts} {l w : List ℕ} {i : Grid} {a : Avalanche}
+        → Follows g (set h site ((get_or h site 0 + 1) % 4)) l u w → IsWrittenBack g d e u w → i ≡ g
+        → IsAvalanche g site (grown g c d) a → DropsInto v.grid i site t h l u w a
+    topples_into {l = l} {w = w} {a = a} follows written shape avalanche =
+        let rises : (j : ℕ) → j < sites g → grown g c d j ≡ risen u w j =
+        λ j less. omega (arith, written.added j less, at.none (tile_of g j) (place_of g j) (place_below g j)) in
+        let is : (j : ℕ) → j < sites g → get_or l j 0 ≡ heights_on g (tiles_of t) j = λ j less. omega (arith,
+        at.heights j less, height_low (tiles_of t (tile_of g j)) (place_of g j), follows.gains j less,
+        with_grain (λ n. n % 4) site h at.within (λ i. omega (arith, at.low i)) j,
+        flow_same g (grown g c d) (risen u w) rises j less, has.settled.toppled.balance j less) in
+        seen at.grid shape (record {
+          heights = by_site_is g (heights_on g (tiles_of t)) l
+              (follows.heights_each ∙ length-set h site _ ∙ at.heights_each) is;
+          settled = settled_same g (λ j. heights_on g (tiles_of s) j + one_at site j)
+              (λ j. get_or h j 0 + one_at site j) (grown g c d) (risen u w) (heights_on g (tiles_of t))
+              (λ j. get_or l j 0) (λ j less. omega (arith, at.heights j less)) rises
+              (λ j less. sym (is j less)) has.settled;
+          avalanche = avalanche_same g site (grown g c d) (risen u w) a rises avalanche;
+        })

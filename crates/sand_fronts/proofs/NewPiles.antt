@@ -4,7 +4,7 @@ use Rattle.std.specs.Prelude.{slice_index}
 use Rattle.std.proofs.Math.ListN.{get_or-eq_default}
 use Rattle.std.proofs.lemmas.Bool.{cases_lt, lt-ltb}
 use Rattle.std.proofs.lemmas.Nat.{div-mul-add, mod-mul-add}
-use Rattle.std.proofs.lemmas.List.{get_or-replicate, length-replicate}
+use Rattle.std.proofs.lemmas.List.{ext_get_or, get_or-replicate, length-replicate}
 use Rattle.std.proofs.lemmas.List.FromFn.{get_or-map-range_with_len, length-map-range_with_len}
 use Rattle.sand_model.specs.Grid.{Grid, sites, places, missing, north, west, east, south}
 use Rattle.sand_model.proofs.Neighbours.{missing_is}
@@ -117,11 +117,6 @@ counts_sites g c d before grown m p low =
     (λ j l. let e = grown (tile_of g j) (place_of g j) (place_below g j) in omega arith) in
     omega arith
 
-pub count_rises : (g : Grid) (c d : ℕ → Count)
-    → ((m p : ℕ) → p < 64 → counted (d m) p ≡ counted (c m) p + on_tiles g (grown_on g c d) m p)
-    → (j : ℕ) → counted_on g c j ≤ counted_on g d j
-count_rises g c d grown j = let e = grown (tile_of g j) (place_of g j) (place_below g j) in omega arith
-
 pub few_at_sites : (g : Grid) (c : ℕ → Count) (most : ℕ)
     → ((m p : ℕ) → p < 64 → counted (c m) p ≡ on_tiles g (counted_on g c) m p)
     → ((j : ℕ) → j < sites g → counted_on g c j ≤ most) → (m p : ℕ) → p < 64 → counted (c m) p ≤ most
@@ -139,6 +134,11 @@ by_site_at g f j l = get_or-map-range_with_len f 0 (sites g) j j 0 l (omega arit
 pub by_site_long : (g : Grid) (f : ℕ → ℕ) → length (by_site g f) ≡ sites g
 unfolding by_site
 by_site_long g f = length-map-range_with_len f 0 (sites g)
+
+pub by_site_is : (g : Grid) (f : ℕ → ℕ) (xs : List ℕ) → length xs ≡ sites g
+    → ((j : ℕ) → j < sites g → get_or xs j 0 ≡ f j) → xs ≡ by_site g f
+by_site_is g f xs each same = ext_get_or 0 xs (by_site g f) (each ∙ sym (by_site_long g f))
+    (λ j l. same j (omega arith) ∙ sym (by_site_at g f j (omega arith)))
 
 pub by_site_past : (g : Grid) (f : ℕ → ℕ) (j : ℕ) → sites g ≤ j → slice_index (by_site g f) j ≡ 0
 by_site_past g f j past = get_or-eq_default (by_site g f) 0 {n = j} (let e = by_site_long g f in omega arith)

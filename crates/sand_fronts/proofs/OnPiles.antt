@@ -15,12 +15,12 @@ use Rattle.sand_fronts.specs.declared.avalanche.Avalanche.{Avalanche}
 use Rattle.sand_fronts.specs.Tiling.{tile_of, place_of, is_site}
 use Rattle.sand_fronts.specs.Marking.{AreToppled, AreSites}
 use Rattle.sand_fronts.specs.Waves.{AreAllOpen}
-use Rattle.sand_fronts.specs.Drops.{heights_on, counted_on, AreQuiet}
+use Rattle.sand_fronts.specs.Drops.{heights_on, counted_on}
 use Rattle.sand_fronts.specs.Avalanches.{IsAvalanche, has_toppled}
 use Rattle.sand_fronts.specs.Boards.{free_of, tiles_of, counts_of, marks_of, grown, IsBoard, IsSand, AreCounts, CountsSites, HasSettled}
 use Rattle.sand_fronts.specs.TiledPiles.{TiledView, IsTiledPile, IsTiledView, tiled_view, by_site, toppled_between}
-use Rattle.sand_fronts.proofs.OnTiles.{off_site}
-use Rattle.sand_fronts.proofs.NewPiles.{by_site_at, by_site_le, by_site_view, count_rises, few_at_sites}
+use Rattle.sand_fronts.proofs.OnTiles.{place_below, off_site}
+use Rattle.sand_fronts.proofs.NewPiles.{by_site_at, by_site_le, by_site_view, few_at_sites}
 
 pub avalanche_same : (g : Grid) (site : ℕ) (u v : ℕ → ℕ) (a : Avalanche)
     → ((j : ℕ) → j < sites g → u j ≡ v j) → IsAvalanche g site u a
@@ -37,16 +37,17 @@ avalanche_same g site u v a same was = record {
       (λ j. missing g j * v j) (λ j l. ap (λ m. missing g j * m) (same j l));
 }
 
-pub pile_after : (b : Board) (s : Sand) (c : Counts) (g : Grid) → b.shape ≡ g → IsBoard b → AreAllOpen g (free_of b)
-    → IsSand g s → AreQuiet (tiles_of s) → AreCounts g c → CountsSites g c → ((m : ℕ) → marks_of c m ≡ 0)
-    → IsTiledPile b s c
-pile_after b s c g same board open' sand quiet counts at none = record {
+-- the pile after a drop that settled it from the heights h, with counts that may have been written elsewhere since
+pub pile_after : {b : Board} {s : Sand} {c d e : Counts} {g : Grid} {h : ℕ → ℕ} → b.shape ≡ g → IsBoard b
+    → AreAllOpen g (free_of b) → HasSettled g h s c d → AreCounts g e → CountsSites g e → ((m : ℕ) → marks_of e m ≡ 0)
+    → IsTiledPile b s e
+pile_after {b} {s} {e = e} same board open' has counts at none = record {
   board = board;
-  all_open = subst (λ h. AreAllOpen h (free_of b)) (sym same) open';
-  sand = subst (λ h. IsSand h s) (sym same) sand;
-  quiet = quiet;
-  counts = subst (λ h. AreCounts h c) (sym same) counts;
-  at_sites = subst (λ h. CountsSites h c) (sym same) at;
+  all_open = subst (λ g. AreAllOpen g (free_of b)) (sym same) open';
+  sand = subst (λ g. IsSand g s) (sym same) has.sand;
+  quiet = has.quiet;
+  counts = subst (λ g. AreCounts g e) (sym same) counts;
+  at_sites = subst (λ g. CountsSites g e) (sym same) at;
   unmarked = none;
 }
 
@@ -54,7 +55,7 @@ pub sites_toppled : (g : Grid) (v words : ℕ → ℕ) → AreToppled g v words 
 sites_toppled g v words toppled m p low is = ⊎_elim
     (λ (yes : is_site g m p ≡ true). yes)
     (λ (no : is_site g m p ≡ false).
-    absurd (let e = toppled m p low in let z = off_site g (λ j. one_if (ltb 0 (v j))) m p no in omega arith))
+    absurd (omega (arith, toppled m p low, off_site g (λ j. one_if (ltb 0 (v j))) m p no)))
     (cases_Bool (is_site g m p))
 
 -- a drop at a site leads from v to w
@@ -65,36 +66,33 @@ pub record Dropped (v : TiledView) (site : ℕ) (w : TiledView) (a : Avalanche) 
       (toppled_between v w) (slice_index w.heights)
   pub avalanche : IsAvalanche v.grid site (toppled_between v w) a
 
-pub dropped : (g : Grid) (site : ℕ) (s t : Sand) (c d : Counts) (a : Avalanche)
-    → HasSettled g (λ j. heights_on g (tiles_of s) j + one_at site j) t c d → IsAvalanche g site (grown g c d) a
-    → Dropped (tiled_view g s c) site (tiled_view g t d) a
-dropped g site s t c d a has is =
-    let between : (j : ℕ) → j < sites g → grown g c d j ≡ toppled_between (tiled_view g s c) (tiled_view g t d) j =
-    λ j l.
-    let before = by_site_at g (counted_on g (counts_of c)) j l in
-    let after = by_site_at g (counted_on g (counts_of d)) j l in
-    omega arith in
-    record {
+pub dropped : {g i : Grid} {site : ℕ} (s : Sand) {t : Sand} {c d : Counts} {v : TiledView} {a : Avalanche}
+    → tiled_view g s c ≡ v → i ≡ g → HasSettled g (λ j. heights_on g (tiles_of s) j + one_at site j) t c d
+    → IsAvalanche g site (grown g c d) a → Dropped v site (tiled_view i t d) a
+dropped {g} {i} {site} s {t} {c} {d} {v} {a} view shape has is =
+    let old = heights_on g (tiles_of s) in
+    let new = heights_on g (tiles_of t) in
+    let before = counted_on g (counts_of c) in
+    let after = counted_on g (counts_of d) in
+    let moved = toppled_between (tiled_view g s c) (tiled_view g t d) in
+    let between : (j : ℕ) → j < sites g → grown g c d j ≡ moved j =
+    λ j l. omega (arith, by_site_at g before j l, by_site_at g after j l) in
+    subst (λ x. Dropped x site (tiled_view i t d) a) view
+    (subst (λ x. Dropped (tiled_view g s c) site (tiled_view x t d) a) (sym shape) (record {
       by_site = by_site_view g t d;
-      never_falls = λ j. by_site_le g (counted_on g (counts_of c)) (counted_on g (counts_of d))
-          j (λ l. count_rises g (counts_of c) (counts_of d) has.counted j);
-      settled = settled_same g (λ j. heights_on g (tiles_of s) j + one_at site j)
-          (λ j. slice_index (tiled_view g s c).heights j + one_at site j)
-          (grown g c d) (toppled_between (tiled_view g s c) (tiled_view g t d))
-          (heights_on g (tiles_of t)) (slice_index (tiled_view g t d).heights)
-          (λ j l. let e = by_site_at g (heights_on g (tiles_of s)) j l in omega arith)
-          between (λ j l. sym (by_site_at g (heights_on g (tiles_of t)) j l)) has.settled;
-      avalanche = avalanche_same g site (grown g c d)
-          (toppled_between (tiled_view g s c) (tiled_view g t d)) a between is;
-    }
+      never_falls = λ j. by_site_le g before after j
+          (λ l. omega (arith, has.counted (tile_of g j) (place_of g j) (place_below g j)));
+      settled = settled_same g (λ j. old j + one_at site j) (λ j. slice_index (by_site g old) j + one_at site j)
+          (grown g c d) moved new (slice_index (by_site g new)) (λ j l. omega (arith, by_site_at g old j l))
+          between (λ j l. sym (by_site_at g new j l)) has.settled;
+      avalanche = avalanche_same g site (grown g c d) moved a between is;
+    }))
 
 pub few_now : (g : Grid) (s : Sand) (c : Counts) → CountsSites g c
     → ((j : ℕ) → j < sites g → slice_index (tiled_view g s c).times j < 2 ^ 60) → (m p : ℕ) → p < 64
     → counted (counts_of c m) p < 2 ^ 60
-few_now g s c counts few m p low =
-    let most = few_at_sites g (counts_of c) (2 ^ 60 - 1) counts
-    (λ j l. let a = by_site_at g (counted_on g (counts_of c)) j l in let f = few j l in omega arith) m p low in
-    omega arith
+few_now g s c counts few m p low = omega (arith, few_at_sites g (counts_of c) (2 ^ 60 - 1) counts
+    (λ j l. omega (arith, by_site_at g (counted_on g (counts_of c)) j l, few j l)) m p low)
 
 -- ---- reading a site
 
