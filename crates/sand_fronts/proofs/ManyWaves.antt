@@ -1,10 +1,10 @@
 -- From one wave of a drop to the next.
 use Rattle.std.proofs.Common.{ℕ, Bool, true, false, cond, eqb, ltb, leb, ◌&&◌, List, ◌≡◌, ◌≢◌, ◌+◌, ◌*◌, ◌^◌, ◌<◌, ◌≤◌, refl, sym, ◌∙◌, ap, subst, arith, ⊎_elim}
 use Rattle.std.proofs.Math.Nat.{mul-le-mul_right}
-use Rattle.std.proofs.lemmas.Bool.{cases_eq, eq-eqb, ne_eqb, leb-true, leb-false}
+use Rattle.std.proofs.lemmas.Bool.{cases_eq, leb-true, leb-false}
 use Rattle.std.proofs.lemmas.Bool.Decides.{nat_tests}
 use Rattle.sand_model.specs.Grid.{Grid, IsGrid, sites, missing}
-use Rattle.sand_model.specs.Sand.{IsToppled, IsSettled, flow, one_at, topplings, lost, weight, grain_weight, sum_below}
+use Rattle.sand_model.specs.Sand.{IsSettled, flow, one_at, topplings, lost, weight, grain_weight, sum_below}
 use Rattle.sand_model.specs.Underway.{Advances}
 use Rattle.sand_model.proofs.Flow.{flow_le}
 use Rattle.sand_model.proofs.Sandpile.{flow_ones, weight_after}
@@ -20,14 +20,14 @@ use Rattle.sand_fronts.specs.Tiling.{tiles, tile_of, place_of, on_tiles}
 use Rattle.sand_fronts.specs.TileLists.{IsClear}
 use Rattle.sand_fronts.specs.declared.counts.Counts.{Counts}
 use Rattle.sand_fronts.specs.Waves.{tile_at, toppled, IsWave, IsWholeWave, AreAtRest, heights_before}
-use Rattle.sand_fronts.specs.Counting.{over_wave}
+use Rattle.sand_fronts.specs.Counting.{in_wave, over_wave}
 use Rattle.sand_fronts.specs.Boards.{counts_of, AreCounted}
 use Rattle.sand_fronts.specs.Drops.{heights_on, grown_on, AreOutside, AreQuiet}
 use Rattle.sand_fronts.proofs.OnTiles.{place_below, on_sum, on_below, on_each, height_low}
 use Rattle.sand_fronts.proofs.Ends.{wave_balance, wave_advances, four_again, HasPassed, Leaves}
 use Rattle.sand_fronts.proofs.Turns.{first_low}
 use Rattle.sand_fronts.proofs.Sums.{sum_on_tiles, sum_below_most, sum_below_none}
-use Rattle.sand_fronts.proofs.Counted.{sum_less_one}
+use Rattle.sand_fronts.proofs.Marked.{area_is}
 
 -- the heights between two waves: if the held site may topple again, it has 4 more than in the planes
 abbrev pub heights_now : Grid → ℕ → Bool → (ℕ → Tile) → ℕ → ℕ
@@ -35,50 +35,23 @@ heights_now g site more τ j = cond more (heights_before g site τ j) (heights_o
 
 -- ---- what the held site has
 
-others_none : (g : Grid) (site : ℕ) (t : ℕ → ℕ) → site < sites g → t site ≡ 1 → topplings g t ≤ 1
-    → (j : ℕ) → j < sites g → j ≢ site → t j ≡ 0
-others_none g site t inside one few j l ne =
-    let u : ℕ → ℕ = λ i. cond (eqb i site) 0 (t i) in
-    let less =
-    sum_less_one (sites g) site t u inside (rw (eq-eqb site site refl)) (λ i other. rw (ne_eqb i site other)) in
-    let part = at_most_sum_below (sites g) u j l in
-    let same : u j ≡ t j = rw (ne_eqb j site ne) in
-    omega arith
-
 -- if no other site has toppled, the held one did not get 4 grains back, since the pile is lighter
 alone_rests : {g : Grid} {site : ℕ} {h : ℕ → ℕ} {τ : ℕ → Tile} → HasPassed g site h τ
-    → topplings g (toppled g τ) ≤ 1 → flow g (toppled g τ) site ≡ 4 → ⊥
-alone_rests {g} {site} {h} {τ} past few back =
+    → ((j : ℕ) → j < sites g → toppled g τ j ≤ 1 * one_at site j) → flow g (toppled g τ) site ≡ 4 → ⊥
+alone_rests {g} {site} {h} {τ} past alone back =
     let t = toppled g τ in
     let k = heights_before g site τ in
     let balance = wave_balance {k = k} past (record {
-      others = λ j l ne. let o = one_at_other site j (λ e. ne (sym e)) in omega arith;
-      held = let o = one_at_same site in omega arith;
+      others = λ j l ne. omega (arith, one_at_other site j (λ e. ne (sym e)));
+      held = omega (arith, one_at_same site);
     }) in
-    let done : IsToppled g h t k = record { balance = balance } in
-    let light = weight_after g h t k done in
-    let inside = past.inside in
-    let started = past.started in
-    let part = at_most_sum_below (sites g) t site inside in
-    let others = others_none g site t inside started few in
+    let light = weight_after g h t k (record { balance = balance }) in
     let heavy = sum_below_le (sites g) (λ i. h i * grain_weight g i) (λ i. k i * grain_weight g i) (λ j l.
+    let none = alone j l in
     let either = cases_eq j site in
     let more : h j ≤ k j = grind (arith, nat_tests) in
     mul-le-mul_right (grain_weight g j) more) in
-    omega arith
-
-other_toppled : (g : Grid) (site : ℕ) (t : ℕ → ℕ) → site < sites g → t site ≡ 1 → 1 < topplings g t
-    → (i : ℕ) × (i < sites g) × (i ≢ site) × (1 ≤ t i)
-other_toppled g site t inside one many = ⊎_elim
-    (λ (all : (i : ℕ) → i < sites g → leb (t i) (1 * one_at site i) ≡ true).
-    let le = sum_below_le (sites g) t (λ i. 1 * one_at site i) (λ i l. leb-true (t i) (1 * one_at site i) (all i l)) in
-    let sum = sum_below-one_at (sites g) site (λ i. 1) inside in
-    absurd (omega arith))
-    (λ (some : (i : ℕ) × (i < sites g) × (leb (t i) (1 * one_at site i) ≡ false)).
-    let i = some.0 in
-    let more = leb-false (t i) (1 * one_at site i) some.2 in
-    (i, some.1, (λ e. let a = ap t e in let b = ap (one_at site) e ∙ one_at_same site in omega arith), omega arith))
-    (all_or_one (sites g) (λ i. leb (t i) (1 * one_at site i)))
+    omega (arith, past.started, at_most_sum_below (sites g) t site past.inside)
 
 -- whether the held site has 4 again
 held_has : {g : Grid} {site : ℕ} {h : ℕ → ℕ} {τ : ℕ → Tile} (more : Bool) → HasPassed g site h τ
@@ -86,15 +59,26 @@ held_has : {g : Grid} {site : ℕ} {h : ℕ → ℕ} {τ : ℕ → Tile} (more :
     → heights_now g site more τ site ≡ flow g (toppled g τ) site
 held_has {g} {site} {h} {τ} more past test =
     let t = toppled g τ in
-    let inside = past.inside in
-    let o = one_at_same site in
-    let most = flow_le g t (λ j. 1) (λ j l. bit_le (τ (tile_of g j)).wave (place_of g j)) site inside in
+    let one : ℕ → ℕ → ℕ = λ i j. 1 * one_at i j in
+    let most = flow_le g t (λ j. 1) (λ j l. bit_le (τ (tile_of g j)).wave (place_of g j)) site past.inside in
     let ones = flow_ones g site in
-    let alone = alone_rests past in
-    let again = λ (many : 1 < topplings g t) (empty : heights_on g τ site ≡ 0).
-    let i = other_toppled g site t inside past.started many in
-    four_again i.0 past empty i.1 i.2 i.3 in
-    grind (arith, nat_tests)
+    let first = sum_below-one_at (sites g) site (λ j. 1) past.inside in
+    ⊎_elim
+    (λ (all : (i : ℕ) → i < sites g → leb (t i) (one site i) ≡ true).
+    let alone : (i : ℕ) → i < sites g → t i ≤ one site i = λ i l. leb-true (t i) (one site i) (all i l) in
+    let few = sum_below_le (sites g) t (one site) alone in
+    let rests = alone_rests past alone in
+    grind (arith, nat_tests))
+    (λ (some : (i : ℕ) × (i < sites g) × (leb (t i) (one site i) ≡ false)).
+    let i = some.0 in
+    let more = leb-false (t i) (one site i) some.2 in
+    let ne : i ≢ site = λ e. omega (arith, ap t e, ap (one_at site) e, one_at_same site, past.started) in
+    let both = sum_below_le (sites g) (λ j. one site j + one i j) t (λ j l. grind (arith, nat_tests)) in
+    let sum = sum_below-add (sites g) (one site) (one i) in
+    let second = sum_below-one_at (sites g) i (λ j. 1) some.1 in
+    let again = four_again i past in
+    grind (arith, nat_tests))
+    (all_or_one (sites g) (λ i. leb (t i) (one site i)))
 
 -- ---- what has been counted
 
@@ -110,7 +94,7 @@ none_grown g c = sym (sum_below_none (sites g) (grown_on g c c) (λ j l. omega a
 
 pub none_counted : (g : Grid) (c : ℕ → Count) (m p : ℕ) → p < 64
     → counted (c m) p ≡ counted (c m) p + on_tiles g (grown_on g c c) m p
-none_counted g c m p low = let b = on_below g (grown_on g c c) m p 0 low (λ j l. omega arith) in omega arith
+none_counted g c m p low = omega (arith, on_below g (grown_on g c c) m p 0 low (λ j l. omega arith))
 
 pub waves_begin : (g : Grid) (site : ℕ) (τ : ℕ → Tile) (c : ℕ → Count) → AreAtRest g site τ
     → AreWaves g site true τ τ c c
@@ -126,141 +110,145 @@ waves_begin g site τ c rest =
       counts = none_counted g c;
     }
 
--- the topplings of a wave, by the counts
-pub wave_counts : (g : Grid) {us vs : List Tile} (c : ℕ → Count) {d e : Counts}
-    → ((m p : ℕ) → p < 64 → counted (counts_of d m) p ≡ counted (c m) p + on_tiles g (grown_on g c (counts_of d)) m p)
-    → AreCounted us vs d e → ((m : ℕ) → IsClear (tile_at vs m))
-    → (j : ℕ) → grown_on g c (counts_of e) j ≡ grown_on g c (counts_of d) j + toppled g (tile_at us) j
-wave_counts g {us} {vs} c {d} {e} counts moved clear j =
-    let p = place_of g j in
-    let low = place_below g j in
-    let m = tile_of g j in
-    omega arith
+lost_more : (g : Grid) (u v w : ℕ → ℕ) → ((j : ℕ) → j < sites g → w j ≡ u j + v j) → lost g w ≡ lost g u + lost g v
+lost_more g u v w e =
+    sum_below_same (sites g) (λ j. missing g j * w j) (λ j. missing g j * u j + missing g j * v j)
+    (λ j l. omega (arith, ap (λ m. missing g j * m) (e j l)))
+    ∙ sum_below-add (sites g) (λ j. missing g j * u j) (λ j. missing g j * v j)
 
-pub waves_more : {g : Grid} {site : ℕ} (more : Bool) {τ σ : ℕ → Tile}
-    {us vs : List Tile} {c : ℕ → Count} (d' : Counts) {e' : Counts}
-    → site < sites g → AreWaves g site true τ σ c (counts_of d') → IsWholeWave g site σ (tile_at us)
-    → AreCounted us vs d' e' → ((m : ℕ) → IsClear (tile_at vs m))
-    → more ≡ (ltb 1 (topplings g (toppled g (tile_at us))) && eqb (heights_on g (tile_at vs) site) 0)
-    → (AreWaves g site more τ (tile_at vs) c (counts_of e'))
-    × (topplings g (grown_on g c (counts_of e'))
-    ≡ topplings g (grown_on g c (counts_of d')) + topplings g (toppled g (tile_at us)))
-    × (weight g (heights_now g site more (tile_at vs)) < weight g (heights_now g site true σ))
-waves_more {g} {site} more {τ} {σ} {us} {vs} {c} d' {e'} inside waves whole counts clear test =
-    let ω = tile_at us in
-    let ρ = tile_at vs in
-    let d = counts_of d' in
-    let e = counts_of e' in
-    let started = whole.started in
-    let t = toppled g ω in
-    let h = heights_before g site σ in
-    let k = heights_now g site more ρ in
-    let same : (j : ℕ) → heights_on g ρ j ≡ heights_on g ω j =
-    λ j. rw (counts.low (tile_of g j), counts.high (tile_of g j)) in
-    let past : HasPassed g site h ω = record {
-      inside = inside;
-      four = let o = one_at_same site in let z = waves.empty refl in omega arith;
-      low = first_low g site σ;
-      wave = whole.wave;
-      started = started;
-      none_due = λ j. whole.none_due (tile_of g j) (place_of g j) (place_below g j);
-    } in
-    let has = held_has more past (test ∙ ap (λ x. ltb 1 (topplings g t) && eqb x 0) (same site)) in
-    let leaves : Leaves g site h ω k = record {
-      others = λ j l ne. let s = same j in grind (arith, nat_tests);
-      held = let s = same site in grind (arith, nat_tests);
-    } in
-    let sums : (j : ℕ) → j < sites g → grown_on g c e j ≡ grown_on g c d j + t j =
-    λ j l. wave_counts g c waves.counts counts clear j in
-    let next = wave_advances (grown_on g c d) (grown_on g c e) past leaves sums in
-    let all = sum_below_same (sites g) (grown_on g c e) (λ j. grown_on g c d j + t j) sums in
-    let both = sum_below-add (sites g) (grown_on g c d) t in
-    let part = at_most_sum_below (sites g) t site inside in (
-      record {
-        quiet = record {
-          clear = clear;
-          none_due = λ m p low. ap (λ x. bit x p) (counts.due m) ∙ whole.none_due m p low;
-        };
-        empty = λ is. grind (arith, nat_tests);
-        advances = record {
-          underway = λ s before. next.underway s (waves.advances.underway s before);
-          weight_pays = let a = next.weight_pays in let b = waves.advances.weight_pays in omega arith;
-          grains_fall = let a = next.grains_fall in let b = waves.advances.grains_fall in omega arith;
-        };
-        counts = λ m p l. let s = on_sum g (grown_on g c d) t (grown_on g c e) m p l sums in omega arith;
-      },
-      omega arith,
-      omega arith,
-    )
+-- legal topplings after legal topplings
+pub advances_on : {g : Grid} {u t v r w q : ℕ → ℕ} → Advances g u t v r → Advances g v r w q → Advances g u t w q
+advances_on first second = record {
+  underway = λ s before. second.underway s (first.underway s before);
+  weight_pays = omega (arith, first.weight_pays, second.weight_pays);
+  grains_fall = omega (arith, first.grains_fall, second.grains_fall);
+}
+
+pub wave_size : {g : Grid} {site : ℕ} {h : ℕ → ℕ} {τ : ℕ → Tile} → IsWave g site h τ
+    → in_wave (tiles g) τ ≡ topplings g (toppled g τ)
+wave_size {g} {τ = τ} wave = area_is g (toppled g τ) (λ k. (τ k).wave) wave.inside
 
 pub wave_lost : {g : Grid} {site : ℕ} {h : ℕ → ℕ} (ν : ℕ → Tile) {τ : ℕ → Tile} → AreOutside g ν → IsWave g site h τ
     → over_wave (tiles g) ν τ ≡ lost g (toppled g τ)
 wave_lost {g} {site} {h} ν {τ} outside wave =
-    sum_below_same (tiles g)
-    (λ k. sum_below 64 (λ p. number (ν k) p * bit (τ k).wave p))
-    (λ k. sum_below 64 (λ p. on_tiles g (λ j. missing g j * toppled g τ j) k p))
-    (λ k l.
-    sum_below_same 64 (λ p. number (ν k) p * bit (τ k).wave p) (λ p. on_tiles g (λ j. missing g j * toppled g τ j) k p)
+    let v : ℕ → ℕ = λ j. missing g j * toppled g τ j in
+    sum_below_same (tiles g) (λ k. sum_below 64 (λ p. number (ν k) p * bit (τ k).wave p))
+    (λ k. sum_below 64 (λ p. on_tiles g v k p))
+    (λ k l. sum_below_same 64 (λ p. number (ν k) p * bit (τ k).wave p) (λ p. on_tiles g v k p)
     (λ p m. rw (outside k p m, wave.inside k p m)
-    (on_each g k p (λ (r : (ℕ → ℕ) → ℕ). r (missing g) * r (toppled g τ) ≡ r (λ j. missing g j * toppled g τ j)) m
-    (λ j l. refl) refl)))
-    ∙ sum_on_tiles g (λ j. missing g j * toppled g τ j)
+    (on_each g k p (λ (r : (ℕ → ℕ) → ℕ). r (missing g) * r (toppled g τ) ≡ r v) m (λ j l. refl) refl)))
+    ∙ sum_on_tiles g v
 
-pub lost_more : (g : Grid) (u v w : ℕ → ℕ) → ((j : ℕ) → j < sites g → w j ≡ u j + v j) → lost g w ≡ lost g u + lost g v
-lost_more g u v w e =
-    sum_below_same (sites g) (λ j. missing g j * w j) (λ j. missing g j * u j + missing g j * v j)
-    (λ j l. let k = ap (λ m. missing g j * m) (e j l) in omega arith)
-    ∙ sum_below-add (sites g) (λ j. missing g j * u j) (λ j. missing g j * v j)
+-- one more wave, from the tiles σ to those of the list us, of `size` topplings, which loses `gone` grains; when it is
+-- counted, the counts d become e, and the tiles are those of the list vs
+pub record OneMore (g : Grid) (site : ℕ) (τ σ : ℕ → Tile) (us vs : List Tile) (c : ℕ → Count)
+    (d e : Counts) (size gone : ℕ) : Type 0 where
+  pub inside : site < sites g
+  pub before : AreWaves g site true τ σ c (counts_of d)
+  pub whole : IsWholeWave g site σ (tile_at us)
+  pub counts : AreCounted us vs d e
+  pub clear : (m : ℕ) → IsClear (tile_at vs m)
+  pub size_is : size ≡ topplings g (toppled g (tile_at us))
+  pub gone_is : gone ≡ lost g (toppled g (tile_at us))
+
+-- after it
+pub record Waved (g : Grid) (site : ℕ) (more : Bool) (τ σ ρ : ℕ → Tile) (c d e : ℕ → Count) (size gone : ℕ)
+    : Type 0 where
+  pub waves : AreWaves g site more τ ρ c e
+  pub all_topplings : topplings g (grown_on g c e) ≡ topplings g (grown_on g c d) + size
+  pub all_lost : lost g (grown_on g c e) ≡ lost g (grown_on g c d) + gone
+  pub lighter : weight g (heights_now g site more ρ) < weight g (heights_now g site true σ)
+
+pub waves_more : {g : Grid} {site : ℕ} (more : Bool) {τ σ : ℕ → Tile} {us vs : List Tile} {c : ℕ → Count} {d e : Counts}
+    {size gone : ℕ} → OneMore g site τ σ us vs c d e size gone
+    → more ≡ (ltb 1 size && eqb (heights_on g (tile_at vs) site) 0)
+    → Waved g site more τ σ (tile_at vs) c (counts_of d) (counts_of e) size gone
+waves_more {g} {site} more {τ} {σ} {us} {vs} {c} {d} {e} {size} wave test =
+    let ω = tile_at us in
+    let ρ = tile_at vs in
+    let counts = wave.counts in
+    let before = wave.before in
+    let whole = wave.whole in
+    let t = toppled g ω in
+    let h = heights_before g site σ in
+    let k = heights_now g site more ρ in
+    let u = grown_on g c (counts_of d) in
+    let v = grown_on g c (counts_of e) in
+    let same : (j : ℕ) → heights_on g ρ j ≡ heights_on g ω j =
+    λ j. rw (counts.low (tile_of g j), counts.high (tile_of g j)) in
+    let past : HasPassed g site h ω = record {
+      inside = wave.inside;
+      four = omega (arith, one_at_same site, before.empty refl);
+      low = first_low g site σ;
+      wave = whole.wave;
+      started = whole.started;
+      none_due = λ j. whole.none_due (tile_of g j) (place_of g j) (place_below g j);
+    } in
+    let has = held_has more past (test ∙ ap (λ n. ltb 1 n && eqb (heights_on g ρ site) 0) wave.size_is
+    ∙ ap (λ x. ltb 1 (topplings g t) && eqb x 0) (same site)) in
+    let leaves : Leaves g site h ω k = record {
+      others = λ j l ne. let s = same j in grind (arith, nat_tests);
+      held = let s = same site in grind (arith, nat_tests);
+    } in
+    let sums : (j : ℕ) → j < sites g → v j ≡ u j + t j = λ j l.
+    let low = place_below g j in
+    omega (arith, before.counts (tile_of g j) (place_of g j) low, counts.each (tile_of g j) (place_of g j) low,
+    wave.clear (tile_of g j) (place_of g j) low) in
+    let next = wave_advances u v past leaves sums in
+    let all = sum_below_same (sites g) v (λ j. u j + t j) sums ∙ sum_below-add (sites g) u t in
+    let part = at_most_sum_below (sites g) t site wave.inside in
+    record {
+      waves = record {
+        quiet = record {
+          clear = wave.clear;
+          none_due = λ m p low. ap (λ x. bit x p) (counts.due m) ∙ whole.none_due m p low;
+        };
+        empty = λ is. grind (arith, nat_tests);
+        advances = advances_on before.advances next;
+        counts = λ m p l. omega (arith, before.counts m p l, counts.each m p l, wave.clear m p l,
+            whole.wave.inside m p l, on_sum g u t v m p l sums);
+      };
+      all_topplings = omega (arith, wave.size_is);
+      all_lost = lost_more g u t v sums ∙ ap (λ n. lost g u + n) (sym wave.gone_is);
+      lighter = omega (arith, next.weight_pays, whole.started);
+    }
 
 missing_le : (g : Grid) (j : ℕ) → missing g j ≤ 4
 unfolding missing
 missing_le g j = omega arith
 
-pub lost_few : (g : Grid) (u : ℕ → ℕ) → lost g u ≤ 4 * topplings g u
-lost_few g u =
-    let le = sum_below_le (sites g) (λ j. missing g j * u j) (λ j. 4 * u j)
-    (λ j l. mul-le-mul_right (u j) (missing_le g j)) in
-    let scaled = sum_below-scale (sites g) 4 u in
-    omega arith
+lost_few : (g : Grid) (u : ℕ → ℕ) → lost g u ≤ 4 * topplings g u
+lost_few g u = omega (arith, sum_below-scale (sites g) 4 u,
+    sum_below_le (sites g) (λ j. missing g j * u j) (λ j. 4 * u j) (λ j l. mul-le-mul_right (u j) (missing_le g j)))
 
 pub none_lost : (g : Grid) (c : ℕ → Count) → 0 ≡ lost g (grown_on g c c)
-none_lost g c = sym (sum_below_none (sites g) (λ j. missing g j * grown_on g c c j)
-    (λ j l. let e = ap (λ x. missing g j * x) (let z : grown_on g c c j ≡ 0 = omega arith in z) in omega arith))
+none_lost g c = omega (arith, none_grown g c, lost_few g (grown_on g c c))
 
 -- a drop on a stable pile topples fewer than 2 ^ 32 times
-pub few_topplings_yet : {g : Grid} {site : ℕ} {more : Bool} {τ σ : ℕ → Tile} {c d : ℕ → Count}
+pub few_yet : {g : Grid} {site : ℕ} {more : Bool} {τ σ : ℕ → Tile} {c d : ℕ → Count}
     → IsGrid g → AreWaves g site more τ σ c d
-    → topplings g (grown_on g c d) < 2 ^ 32
-few_topplings_yet {g} {site} {more} {τ} {σ} {c} {d} sides waves =
+    → (topplings g (grown_on g c d) < 2 ^ 32) × (lost g (grown_on g c d) < 2 ^ 34)
+few_yet {g} {site} {τ = τ} {c = c} {d = d} sides waves =
     let h = heights_before g site τ in
-    let each = sum_below_most (sites g) 7 h (λ j l.
-    let a = height_low (τ (tile_of g j)) (place_of g j) in
-    let o = at_most_one (eqb site j) in
-    omega arith) in
-    let limit = sites_limit g sides in
-    let heavy = weight_bound g h sides in
-    let none = sum_below-zero (sites g) in
-    omega arith
+    let each = sum_below_most (sites g) 7 h
+    (λ j l. omega (arith, height_low (τ (tile_of g j)) (place_of g j), at_most_one (eqb site j))) in
+    let few : topplings g (grown_on g c d) < 2 ^ 32 = omega
+    (arith, sites_limit g sides, weight_bound g h sides, sum_below-zero (sites g), waves.advances.weight_pays) in
+    (few, omega (arith, lost_few g (grown_on g c d)))
 
 pub few_counted : {g : Grid} {site : ℕ} {more : Bool} {τ σ : ℕ → Tile} {c d : ℕ → Count} (m p : ℕ)
     → IsGrid g → AreWaves g site more τ σ c d → p < 64
     → counted (c m) p < 2 ^ 60 → counted (d m) p < 2 ^ 61
-few_counted {g} {site} {more} {τ} {σ} {c} {d} m p sides waves low few =
-    let all = few_topplings_yet sides waves in
-    let here = on_below g (grown_on g c d) m p (2 ^ 32) low
-    (λ j l. let part = at_most_sum_below (sites g) (grown_on g c d) j l in omega arith) in
-    omega arith
+few_counted {g} {c = c} {d = d} m p sides waves low few =
+    let u = grown_on g c d in
+    let all = (few_yet sides waves).0 in
+    omega (arith, waves.counts m p low,
+    on_below g u m p (2 ^ 32) low (λ j l. omega (arith, at_most_sum_below (sites g) u j l)))
 
 pub waves_end : {g : Grid} {site : ℕ} {τ σ : ℕ → Tile} {c d : ℕ → Count} → AreWaves g site false τ σ c d
     → IsSettled g (heights_before g site τ) (grown_on g c d) (heights_on g σ)
 waves_end {g} {site} {τ} {σ} {c} {d} waves =
-    underway_end g (heights_before g site τ) (grown_on g c d) (heights_on g σ)
-    (waves.advances.underway (heights_before g site τ)
-    (underway_start g (heights_before g site τ) (λ j. 0) (λ j l. refl)))
-    (λ j l. let a = height_low (σ (tile_of g j)) (place_of g j) in omega arith)
-
--- between two waves the tiles are at rest
-pub at_rest : {g : Grid} {site : ℕ} {more : Bool} {τ σ : ℕ → Tile} {c d : ℕ → Count}
-    → AreWaves g site more τ σ c d → more ≡ true → AreAtRest g site σ
-at_rest {g} {site} {more} {τ} {σ} {c} {d} waves is =
-    record { quiet = waves.quiet; empty = waves.empty is }
+    let h = heights_before g site τ in
+    underway_end g h (grown_on g c d) (heights_on g σ)
+    (waves.advances.underway h (underway_start g h (λ j. 0) (λ j l. refl)))
+    (λ j l. height_low (σ (tile_of g j)) (place_of g j))

@@ -1,4 +1,4 @@
-use Rattle.std.proofs.Common.{length, ◌∙◌, sym, ap, subst, arith, rules}
+use Rattle.std.proofs.Common.{length, ◌∙◌, ap, arith, rules}
 use Rattle.std.specs.Prelude.{slice_index}
 use Rattle.std.proofs.lemmas.List.{length-set}
 use Rattle.sand_fronts.specs.Marking.{MarksView}
