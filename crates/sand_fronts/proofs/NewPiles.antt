@@ -1,8 +1,8 @@
 -- A new pile on tiles.
-use Rattle.std.proofs.Common.{ℕ, List, [], ◌∷◌, length, replicate, get_or, Some, count_by, is_none, ◌≡◌, ◌+◌, ◌-◌, ◌*◌, ◌/◌, ◌%◌, ◌<◌, ◌≤◌, refl, sym, ◌∙◌, ap, subst, arith, ⊎_elim}
+use Rattle.std.proofs.Common.{ℕ, List, [], length, replicate, get_or, count_by, is_none, ◌≡◌, ◌+◌, ◌*◌, ◌/◌, ◌%◌, ◌<◌, ◌≤◌, refl, sym, ◌∙◌, ap, subst, arith}
 use Rattle.std.specs.Prelude.{slice_index}
 use Rattle.std.proofs.Math.ListN.{get_or-eq_default}
-use Rattle.std.proofs.lemmas.Bool.{cases_lt, lt-ltb}
+use Rattle.std.proofs.lemmas.Bool.{lt-ltb}
 use Rattle.std.proofs.lemmas.Nat.{div-mul-add, mod-mul-add}
 use Rattle.std.proofs.lemmas.List.{ext_get_or, get_or-replicate, length-replicate}
 use Rattle.std.proofs.lemmas.List.FromFn.{get_or-map-range_with_len, length-map-range_with_len}
@@ -38,52 +38,39 @@ counts_sound cs ss n m all = subst (λ r. IsCount (count_of r (get_or ss m [])))
 
 pub counts_none : (cs : List Recent) (ss : List (List ℕ)) (n m p : ℕ) → cs ≡ replicate n no_recent → ss ≡ []
     → counted (count_at cs ss m) p ≡ 0
-counts_none cs ss n m p all none =
-    let a = ap (λ (r : Recent). times r.planes p) (none_recent cs n m all) in
-    let b = ap (λ (xs : List (List ℕ)). spilled_at xs m p) none in
-    let z = bit_none p in
-    omega arith
+counts_none cs ss n m p all none = omega (arith, bit_none p,
+    ap (λ (r : Recent). times r.planes p) (none_recent cs n m all),
+    ap (λ (xs : List (List ℕ)). spilled_at xs m p) none)
 
 -- tiles where each site has had just its height are at rest
-pub new_quiet : (g : Grid) (h : ℕ → ℕ) (τ : ℕ → Tile)
-    → ((j : ℕ) → j < sites g → h j ≤ 3)
+pub new_quiet : (g : Grid) (h : ℕ → ℕ) (τ : ℕ → Tile) → ((j : ℕ) → j < sites g → h j ≤ 3)
     → ((m p : ℕ) → p < 64 → had (τ m) p ≡ on_tiles g h m p) → AreQuiet τ
 new_quiet g h τ low all = record {
-  clear = λ m p l. let e = all m p l in let f = on_below g h m p 3 l low in omega arith;
-  none_due = λ m p l. let e = all m p l in let f = on_below g h m p 3 l low in omega arith;
+  clear = λ m p l. omega (arith, all m p l, on_below g h m p 3 l low);
+  none_due = λ m p l. omega (arith, all m p l, on_below g h m p 3 l low);
 }
 
-pub new_heights : (g : Grid) (h : ℕ → ℕ) (τ : ℕ → Tile) (j : ℕ)
-    → ((j : ℕ) → j < sites g → h j ≤ 3)
-    → ((m p : ℕ) → p < 64 → had (τ m) p ≡ on_tiles g h m p) → j < sites g
-    → heights_on g τ j ≡ h j
+pub new_heights : (g : Grid) (h : ℕ → ℕ) (τ : ℕ → Tile) (j : ℕ) → ((j : ℕ) → j < sites g → h j ≤ 3)
+    → ((m p : ℕ) → p < 64 → had (τ m) p ≡ on_tiles g h m p) → j < sites g → heights_on g τ j ≡ h j
 new_heights g h τ j low all l =
-    let e = all (tile_of g j) (place_of g j) (place_below g j) in
-    let at = at_on g h j l in
-    let f = low j l in
-    omega arith
+    omega (arith, all (tile_of g j) (place_of g j) (place_below g j), at_on g h j l, low j l)
 
 -- ---- the number of places around each site outside the grid
 
-inner_places : (g : Grid) (y x : ℕ) → 0 < y → y + 1 < g.height → 0 < x → x + 1 < g.width
-    → places g (y * g.width + x) ≡ Some (y * g.width + x - g.width) ∷ Some (y * g.width + x - 1)
-    ∷ Some (y * g.width + x + 1) ∷ Some (y * g.width + x + g.width) ∷ []
+pub none_missing : (g : Grid) (y x : ℕ) → 0 < y → y + 1 < g.height → 0 < x → x + 1 < g.width
+    → 0 ≡ missing g (y * g.width + x)
 unfolding north west east south
-inner_places g y x above below before after =
+none_missing g y x above below before after =
     let w = g.width in
     let r : (y * w + x) / w ≡ y = div-mul-add y w x (omega arith) in
     let c : (y * w + x) % w ≡ x = mod-mul-add y w x (omega arith) in
-    rw (
+    let none : 0 ≡ count_by is_none (places g (y * w + x)) = rw (
       lt-ltb 0 ((y * w + x) / w) (omega arith),
       lt-ltb ((y * w + x) / w + 1) g.height (omega arith),
       lt-ltb 0 ((y * w + x) % w) (omega arith),
       lt-ltb ((y * w + x) % w + 1) w (omega arith),
-    ) refl
-
-pub none_missing : (g : Grid) (y x : ℕ) → 0 < y → y + 1 < g.height → 0 < x → x + 1 < g.width
-    → 0 ≡ missing g (y * g.width + x)
-none_missing g y x above below before after = sym (missing_is g (y * g.width + x)
-    ∙ ap (count_by is_none) (inner_places g y x above below before after))
+    ) refl in
+    none ∙ sym (missing_is g (y * w + x))
 
 pub inner_missing : (g : Grid) (k p : ℕ) → IsInner g k → p < 64 → on_tiles g (missing g) k p ≡ 0
 unfolding site_on
@@ -100,30 +87,22 @@ few_missing g j n is = omega arith
 
 pub counts_no_site : (g : Grid) (c : ℕ → Count) → ((m p : ℕ) → p < 64 → counted (c m) p ≡ 0) → (m p : ℕ) → p < 64
     → counted (c m) p ≡ on_tiles g (counted_on g c) m p
-counts_no_site g c none m p low =
-    let z = none m p low in
-    let b = on_below g (counted_on g c) m p 0 low
-    (λ j l. let e = none (tile_of g j) (place_of g j) (place_below g j) in omega arith) in
-    omega arith
+counts_no_site g c none m p low = omega (arith, none m p low, on_below g (counted_on g c) m p 0 low
+    (λ j l. omega (arith, none (tile_of g j) (place_of g j) (place_below g j))))
 
 pub counts_sites : (g : Grid) (c d : ℕ → Count)
     → ((m p : ℕ) → p < 64 → counted (c m) p ≡ on_tiles g (counted_on g c) m p)
     → ((m p : ℕ) → p < 64 → counted (d m) p ≡ counted (c m) p + on_tiles g (grown_on g c d) m p)
     → (m p : ℕ) → p < 64 → counted (d m) p ≡ on_tiles g (counted_on g d) m p
-counts_sites g c d before grown m p low =
-    let a = before m p low in
-    let b = grown m p low in
-    let s = on_sum g (counted_on g c) (grown_on g c d) (counted_on g d) m p low
-    (λ j l. let e = grown (tile_of g j) (place_of g j) (place_below g j) in omega arith) in
-    omega arith
+counts_sites g c d before grown m p low = omega (arith, before m p low, grown m p low,
+    on_sum g (counted_on g c) (grown_on g c d) (counted_on g d) m p low
+    (λ j l. omega (arith, grown (tile_of g j) (place_of g j) (place_below g j))))
 
 pub few_at_sites : (g : Grid) (c : ℕ → Count) (most : ℕ)
     → ((m p : ℕ) → p < 64 → counted (c m) p ≡ on_tiles g (counted_on g c) m p)
     → ((j : ℕ) → j < sites g → counted_on g c j ≤ most) → (m p : ℕ) → p < 64 → counted (c m) p ≤ most
 few_at_sites g c most counts few m p low =
-    let e = counts m p low in
-    let b = on_below g (counted_on g c) m p most low few in
-    omega arith
+    omega (arith, counts m p low, on_below g (counted_on g c) m p most low few)
 
 -- ---- numbers by site, in a list
 
@@ -140,8 +119,8 @@ pub by_site_is : (g : Grid) (f : ℕ → ℕ) (xs : List ℕ) → length xs ≡ 
 by_site_is g f xs each same = ext_get_or 0 xs (by_site g f) (each ∙ sym (by_site_long g f))
     (λ j l. same j (omega arith) ∙ sym (by_site_at g f j (omega arith)))
 
-pub by_site_past : (g : Grid) (f : ℕ → ℕ) (j : ℕ) → sites g ≤ j → slice_index (by_site g f) j ≡ 0
-by_site_past g f j past = get_or-eq_default (by_site g f) 0 {n = j} (let e = by_site_long g f in omega arith)
+by_site_past : (g : Grid) (f : ℕ → ℕ) (j : ℕ) → sites g ≤ j → slice_index (by_site g f) j ≡ 0
+by_site_past g f j past = get_or-eq_default (by_site g f) 0 {n = j} (omega (arith, by_site_long g f))
 
 pub by_site_view : (g : Grid) (s : Sand) (c : Counts) → IsTiledView (tiled_view g s c)
 by_site_view g s c = record {
@@ -151,15 +130,8 @@ by_site_view g s c = record {
 
 pub by_site_le : (g : Grid) (u v : ℕ → ℕ) (j : ℕ) → (j < sites g → u j ≤ v j)
     → slice_index (by_site g u) j ≤ slice_index (by_site g v) j
-by_site_le g u v j le = ⊎_elim
-    (λ (less : j < sites g).
-    let a = by_site_at g u j less in let b = by_site_at g v j less in let c = le less in omega arith)
-    (λ (past : sites g ≤ j). let a = by_site_past g u j past in omega arith)
-    (cases_lt j (sites g))
+by_site_le g u v j le = grind (arith, by_site_at g u j, by_site_at g v j, by_site_past g u j, le)
 
 pub by_site_none : (g : Grid) (f : ℕ → ℕ) → ((j : ℕ) → j < sites g → f j ≡ 0) → (j : ℕ)
     → slice_index (by_site g f) j ≡ 0
-by_site_none g f none j = ⊎_elim
-    (λ (less : j < sites g). by_site_at g f j less ∙ none j less)
-    (λ (past : sites g ≤ j). by_site_past g f j past)
-    (cases_lt j (sites g))
+by_site_none g f none j = grind (arith, by_site_at g f j, by_site_past g f j, none j)

@@ -80,7 +80,7 @@ test c =
 pub waves-smaller : goal.waves-smaller
 waves-smaller c =
     let next = waves_more _ (wave (goal.at.waves-smaller c).After-count_wave-wave) (test c) in
-    rw c.waves-test.true next.lighter
+    rw c.waves-test.true (omega (arith, next.lighter))
 
 pub waves-preserved : goal.waves-preserved
 waves-preserved c =
