@@ -25,7 +25,6 @@ use Rattle.sand_fronts.specs.Boards.{counts_of, AreCounted}
 use Rattle.sand_fronts.specs.Drops.{heights_on, grown_on, AreOutside, AreQuiet}
 use Rattle.sand_fronts.proofs.OnTiles.{place_below, on_sum, on_below, on_each, height_low}
 use Rattle.sand_fronts.proofs.Ends.{wave_balance, wave_advances, four_again, HasPassed, Leaves}
-use Rattle.sand_fronts.proofs.Turns.{first_low}
 use Rattle.sand_fronts.proofs.Sums.{sum_on_tiles, sum_below_most, sum_below_none}
 use Rattle.sand_fronts.proofs.Marked.{area_is}
 
@@ -36,29 +35,35 @@ heights_now g site more τ j = cond more (heights_before g site τ j) (heights_o
 -- ---- what the held site has
 
 -- if no other site has toppled, the held one did not get 4 grains back, since the pile is lighter
-alone_rests : {g : Grid} {site : ℕ} {h : ℕ → ℕ} {τ : ℕ → Tile} → HasPassed g site h τ
+alone_rests : {g : Grid} {site : ℕ} {ρ τ : ℕ → Tile} → HasPassed g site ρ τ
     → ((j : ℕ) → j < sites g → toppled g τ j ≤ 1 * one_at site j) → flow g (toppled g τ) site ≡ 4 → ⊥
-alone_rests {g} {site} {h} {τ} past alone back =
+alone_rests {g} {site} {ρ} {τ} past alone back =
     let t = toppled g τ in
+    let h = heights_before g site ρ in
     let k = heights_before g site τ in
-    let balance = wave_balance {k = k} past (record {
+    let balance = wave_balance past {k = k} (record {
       others = λ j l ne. omega (arith, one_at_other site j (λ e. ne (sym e)));
       held = omega (arith, one_at_same site);
     }) in
     let light = weight_after g h t k (record { balance = balance }) in
     let heavy = sum_below_le (sites g) (λ i. h i * grain_weight g i) (λ i. k i * grain_weight g i) (λ j l.
     let none = alone j l in
+    let started = past.whole.started in
     let either = cases_eq j site in
     let more : h j ≤ k j = grind (arith, nat_tests) in
     mul-le-mul_right (grain_weight g j) more) in
-    omega (arith, past.started, at_most_sum_below (sites g) t site past.inside)
+    omega (arith, past.whole.started, at_most_sum_below (sites g) t site past.inside)
 
 -- whether the held site has 4 again
-held_has : {g : Grid} {site : ℕ} {h : ℕ → ℕ} {τ : ℕ → Tile} (more : Bool) → HasPassed g site h τ
+held_has : {g : Grid} {site : ℕ} {ρ τ : ℕ → Tile} (more : Bool) → HasPassed g site ρ τ
     → more ≡ (ltb 1 (topplings g (toppled g τ)) && eqb (heights_on g τ site) 0)
     → heights_now g site more τ site ≡ flow g (toppled g τ) site
-held_has {g} {site} {h} {τ} more past test =
+held_has {g} {site} {ρ} {τ} more past test =
     let t = toppled g τ in
+    let four = one_at_same site in
+    let empty = past.empty in
+    let started = past.whole.started in
+    let held = past.whole.wave.at_held in
     let one : ℕ → ℕ → ℕ = λ i j. 1 * one_at i j in
     let most = flow_le g t (λ j. 1) (λ j l. bit_le (τ (tile_of g j)).wave (place_of g j)) site past.inside in
     let ones = flow_ones g site in
@@ -72,11 +77,11 @@ held_has {g} {site} {h} {τ} more past test =
     (λ (some : (i : ℕ) × (i < sites g) × (leb (t i) (one site i) ≡ false)).
     let i = some.0 in
     let more = leb-false (t i) (one site i) some.2 in
-    let ne : i ≢ site = λ e. omega (arith, ap t e, ap (one_at site) e, one_at_same site, past.started) in
+    let ne : i ≢ site = λ e. omega (arith, ap t e, ap (one_at site) e, one_at_same site, started) in
     let both = sum_below_le (sites g) (λ j. one site j + one i j) t (λ j l. grind (arith, nat_tests)) in
     let sum = sum_below-add (sites g) (one site) (one i) in
     let second = sum_below-one_at (sites g) i (λ j. 1) some.1 in
-    let again = four_again i past in
+    let again = four_again past i in
     grind (arith, nat_tests))
     (all_or_one (sites g) (λ i. leb (t i) (one site i)))
 
@@ -176,14 +181,7 @@ waves_more {g} {site} more {τ} {σ} {us} {vs} {c} {d} {e} {size} wave test =
     let v = grown_on g c (counts_of e) in
     let same : (j : ℕ) → heights_on g ρ j ≡ heights_on g ω j =
     λ j. rw (counts.low (tile_of g j), counts.high (tile_of g j)) in
-    let past : HasPassed g site h ω = record {
-      inside = wave.inside;
-      four = omega (arith, one_at_same site, before.empty refl);
-      low = first_low g site σ;
-      wave = whole.wave;
-      started = whole.started;
-      none_due = λ j. whole.none_due (tile_of g j) (place_of g j) (place_below g j);
-    } in
+    let past : HasPassed g site σ ω = record { inside = wave.inside; empty = before.empty refl; whole = whole } in
     let has = held_has more past (test ∙ ap (λ n. ltb 1 n && eqb (heights_on g ρ site) 0) wave.size_is
     ∙ ap (λ x. ltb 1 (topplings g t) && eqb x 0) (same site)) in
     let leaves : Leaves g site h ω k = record {
@@ -194,7 +192,7 @@ waves_more {g} {site} more {τ} {σ} {us} {vs} {c} {d} {e} {size} wave test =
     let low = place_below g j in
     omega (arith, before.counts (tile_of g j) (place_of g j) low, counts.each (tile_of g j) (place_of g j) low,
     wave.clear (tile_of g j) (place_of g j) low) in
-    let next = wave_advances u v past leaves sums in
+    let next = wave_advances past u v leaves sums in
     let all = sum_below_same (sites g) v (λ j. u j + t j) sums ∙ sum_below-add (sites g) u t in
     let part = at_most_sum_below (sites g) t site wave.inside in
     record {

@@ -8,7 +8,7 @@ use Rattle.sand_tiles.specs.declared.tile.Tile.{Tile}
 use Rattle.sand_tiles.specs.Places.{bit, height, had, around, Visits}
 use Rattle.sand_tiles.proofs.Around.{around_none}
 use Rattle.sand_fronts.specs.declared.sides.Beside.{Beside}
-use Rattle.sand_fronts.specs.Tiling.{pitch, tile_of, place_of, on_tiles}
+use Rattle.sand_fronts.specs.Tiling.{pitch, tile_of, place_of}
 use Rattle.sand_fronts.specs.Waves.{at_site, toppled, only, put, over_rim, IsBeside}
 use Rattle.sand_fronts.proofs.NeighboursOnTiles.{tile, place, IsBlank, parts_of, flow_on_tiles}
 use Rattle.sand_fronts.proofs.OnTiles.{place_below, on_tiles_blank, on_sum, height_low}
@@ -52,12 +52,10 @@ pays_put : (free : ℕ → ℕ) (τ : ℕ → Tile) (k start new : ℕ) (t : Til
 pays_put free τ k start new t visits = cond_each (λ m x. Pays (τ m) x (free m) (only k (bit new) m)) τ k t
     (subst (Pays (τ k) t (free k)) (λ i p. sym (only_same k k (bit new) p refl) i)
     (record { once = visits.once; at_open = visits.at_open; modulo = visits.modulo }))
-    (λ m ne.
-    let none = λ (p : ℕ) (l : p < 64). around_none (λ q. 0) p l (λ q x. refl) in
-    subst (Pays (τ m) (τ m) (free m)) (λ i p. sym (only_other k m (bit new) p ne) i) (record {
+    (λ m ne. subst (Pays (τ m) (τ m) (free m)) (λ i p. sym (only_other k m (bit new) p ne) i) (record {
       once = λ p l. omega arith;
-      at_open = λ p l is. let n = none p l in omega arith;
-      modulo = λ p l. let n = none p l in let a = height_low (τ m) p in omega arith;
+      at_open = λ p l is. omega (arith, around_none (λ q. 0) p l (λ q x. refl));
+      modulo = λ p l. omega (arith, around_none (λ q. 0) p l (λ q x. refl), height_low (τ m) p);
     }))
 
 -- a tile is visited: its sites topple, and the grains that leave it are under way
@@ -68,38 +66,28 @@ pub visited_wave : {g : Grid} {site : ℕ} {h free : ℕ → ℕ} {τ : ℕ → 
     → ((m p : ℕ) → more m p ≡ away m p + over_rim b new m p)
     → IsUnderWay g site h (put k t τ) more
     × ((j : ℕ) → toppled g (put k t τ) j ≡ toppled g τ j + at_site g (only k (bit new)) j)
-visited_wave {g} {site} {h} {free} {τ} {away} {t} {k} {start} {new}
-    {b} s more from wave begins first ik beside visits fits sums =
+visited_wave {g} {site} {free = free} {τ} {t = t} {k} {start} {new} {b} s more from wave begins first ik beside visits
+    fits sums =
+    let u = toppled g τ in
+    let v = toppled g (put k t τ) in
     let n : ℕ → ℕ = at_site g (only k (bit new)) in
     let pays : (m : ℕ) → Pays (τ m) (put k t τ m) (free m) (only k (bit new) m) =
     pays_put free τ k start new t visits in
-    let sites_only : (m p : ℕ) → p < 64 → only k (bit new) m p ≡ on_tiles g n m p = newly from k s begins visits in
-    let sum : (j : ℕ) → toppled g (put k t τ) j ≡ toppled g τ j + n j =
-    λ j. (pays (tile_of g j)).once (place_of g j) (place_below g j) in
-    let flows : (j : ℕ) → j < sites g → flow g (toppled g (put k t τ)) j ≡ flow g (toppled g τ) j
-    + (around (only k (bit new) (tile_of g j)) (place_of g j) + over_rim b new (tile_of g j) (place_of g j)) = λ j l.
-    flow_same g (toppled g (put k t τ)) (λ i. toppled g τ i + n i) (λ i m. sum i) j l ∙ flow-add g (toppled g τ) n j
-    ∙ ap (λ f. flow g (toppled g τ) j + f) (gained g k new b j l ik beside fits
-    (λ y x less out. sites_only (tile g y x) (place y x) (omega arith) ∙ on_tiles_blank g n y x less out)) in (
+    let sum : (j : ℕ) → v j ≡ u j + n j = λ j. (pays (tile_of g j)).once (place_of g j) (place_below g j) in
+    let flows : (j : ℕ) → j < sites g → flow g v j ≡ flow g u j
+    + (around (only k (bit new) (tile_of g j)) (place_of g j) + over_rim b new (tile_of g j) (place_of g j)) =
+    λ j l. flow_same g v (λ i. u i + n i) (λ i m. sum i) j l ∙ flow-add g u n j
+    ∙ ap (λ f. flow g u j + f) (gained g k new b j l ik beside fits
+    (λ y x less out. newly from k s begins visits (tile g y x) (place y x) (omega arith)
+    ∙ on_tiles_blank g n y x less out)) in (
       record {
-        inside = λ m p l.
-            let o = (pays m).once p l in
-            let both = on_sum g (toppled g τ) n (toppled g (put k t τ)) m p l (λ j less. sum j) in
-            omega arith;
-        at_open = λ j l ne.
-            let f = flows j l in
-            let x = (pays (tile_of g j)).at_open (place_of g j) (place_below g j) (free_at from j l ne) in
-            let r = sums (tile_of g j) (place_of g j) in
-            omega arith;
-        at_held =
-            let f = flows site from.inside in
-            let x = (pays (tile_of g site)).modulo (place_of g site) (place_below g site) in
-            let r = sums (tile_of g site) (place_of g site) in
-            omega arith;
-        needed = λ w stable j l.
-            let e = sum j in
-            let le = needed_next from s wave begins first visits w stable j l in
-            omega arith;
+        inside = λ m p l. omega (arith, (pays m).once p l, newly from k s begins visits m p l,
+            on_sum g u n v m p l (λ j less. sum j));
+        at_open = λ j l ne. omega (arith, flows j l, sums (tile_of g j) (place_of g j),
+            (pays (tile_of g j)).at_open (place_of g j) (place_below g j) (free_at from j l ne));
+        at_held = omega (arith, flows site from.inside, sums (tile_of g site) (place_of g site),
+            (pays (tile_of g site)).modulo (place_of g site) (place_below g site));
+        needed = λ w stable j l. omega (arith, sum j, needed_next from s wave begins first visits w stable j l);
       },
       sum,
     )

@@ -25,14 +25,13 @@ unfolding only
 only_other k m f p ne = ap (λ b. cond b (f p) 0) (ne_eqb m k ne)
 
 flow_four_at_most : (g : Grid) (u : ℕ → ℕ) → ((j : ℕ) → j < sites g → u j ≤ 1) → (j : ℕ) → j < sites g → flow g u j ≤ 4
-flow_four_at_most g u few j l = let a = flow_le g u (λ m. 1) few j l in let b = flow_ones g j in omega arith
+flow_four_at_most g u few j l = omega (arith, flow_le g u (λ m. 1) few j l, flow_ones g j)
 
 around_some : (g : Grid) (v : ℕ → ℕ) (j : ℕ) → j < sites g
     → around (on_tiles g v (tile_of g j)) (place_of g j) ≤ flow g v j
 around_some g v j l =
-    let all = flow_on_tiles g (on_tiles g v) j (on_tiles_blank g v) l in
-    let same = flow_same g (at_site g (on_tiles g v)) v (λ i m. at_on g v i m) j l in
-    omega arith
+    omega (arith, flow_on_tiles g (on_tiles g v) j (on_tiles_blank g v) l,
+    flow_same g (at_site g (on_tiles g v)) v (λ i m. at_on g v i m) j l)
 
 -- what each wave of a drop begins with: the heights h, of which the dropped site has 4, and all other sites free
 pub record IsStart (g : Grid) (site : ℕ) (h : ℕ → ℕ) (free : ℕ → ℕ) : Type 0 where
@@ -55,10 +54,10 @@ pub record IsUnderWay (g : Grid) (site : ℕ) (h : ℕ → ℕ) (τ : ℕ → Ti
   pub needed : (w : ℕ → ℕ) → Stabilises g h w → (j : ℕ) → j < sites g → toppled g τ j ≤ w j
 
 pub arrived : {g : Grid} {site : ℕ} {h : ℕ → ℕ} {τ : ℕ → Tile} → IsUnderWay g site h τ (λ m p. 0) → IsWave g site h τ
-arrived {g} {site} {h} {τ} wave = record {
+arrived {g} {site} {τ = τ} wave = record {
   inside = wave.inside;
   at_open = λ j l ne. omega arith;
-  at_held = let low = height_low (τ (tile_of g site)) (place_of g site) in omega arith;
+  at_held = omega (arith, height_low (τ (tile_of g site)) (place_of g site));
   needed = wave.needed;
 }
 
@@ -74,41 +73,35 @@ set_is g τ j = bit_le _ _
 
 module _ {g : Grid} {site : ℕ} {h free : ℕ → ℕ} (from : IsStart g site h free) where
   pub free_at : (j : ℕ) → j < sites g → j ≢ site → bit (free (tile_of g j)) (place_of g j) ≡ 1
-  free_at j l ne =
-      let z = one_at_other site j (λ e. ne (sym e)) in
-      from.all_open (tile_of g j) (place_of g j) (place_below g j) ∙ at_on g (λ i. 1 - one_at site i) j l ∙ omega arith
+  free_at j l ne = omega (arith, from.all_open (tile_of g j) (place_of g j) (place_below g j),
+      at_on g (λ i. 1 - one_at site i) j l, one_at_other site j (λ e. ne (sym e)))
 
   -- a tile is ready for a visit
   pub wave_ready : {τ : ℕ → Tile} (k start s : ℕ) → IsUnderWay g site h τ (λ m p. 0) → Starts g site s k start
       → toppled g τ site + s ≤ 1 → IsReady (τ k) (free k) start
   wave_ready {τ} k start s wave begins first =
-      let open' = from.all_open in
-      let unused_le : (q : ℕ) → q < 64 → unused (free k) start (τ k).wave q ≤ on_tiles g (λ j. 1 - toppled g τ j) k q =
-      λ q l.
-      let f = bit_le (free k) q in
-      let st = bit_le start q in
+      let t = toppled g τ in
+      let rest : ℕ → ℕ = λ j. 1 - t j in
+      let unused_le : (q : ℕ) → q < 64 → unused (free k) start (τ k).wave q ≤ on_tiles g rest k q = λ q l.
       on_each g k q (λ (r : (ℕ → ℕ) → ℕ).
       bit (free k) q ≡ r (λ j. 1 - one_at site j) → bit start q ≡ r (λ j. s * one_at site j)
-      → bit (τ k).wave q ≡ r (toppled g τ) → unused (free k) start (τ k).wave q ≤ r (λ j. 1 - toppled g τ j)) l
-      (λ j m o b i. omega arith) (λ o b i. omega arith) (open' k q l) (begins q l) (wave.inside k q l) in
+      → bit (τ k).wave q ≡ r t → unused (free k) start (τ k).wave q ≤ r rest) l
+      (λ j m o b i. omega (arith, bit_le (free k) q, bit_le start q)) (λ o b i. omega arith)
+      (from.all_open k q l) (begins q l) (wave.inside k q l) in
       record {
         low = λ p l is.
-            let yes = open_site g site free k p open' l is in
-            let t = there_again g k p l yes.0 in
+            let yes = open_site g site free k p from.all_open l is in
+            let at = there_again g k p l yes.0 in
             let j = site_on g k p in
-            let back = ap (λ m. had (τ m) (place_of g j)) t.1 ∙ ap (had (τ k)) t.2 in
-            let a =
-            around_le (unused (free k) start (τ k).wave) (on_tiles g (λ i. 1 - toppled g τ i) k) p l unused_le in
-            let b = rw (t.1, t.2) at (around_some g (λ i. 1 - toppled g τ i) j t.0) in
-            let both = flow-add g (toppled g τ) (λ i. 1 - toppled g τ i) j in
-            let four = flow_four_at_most g (λ i. toppled g τ i + (1 - toppled g τ i))
-            (λ i m. let z = set_is g τ i in omega arith) j t.0 in
-            omega arith;
+            omega (arith, rw (at.1, at.2) at (wave.at_open j at.0 yes.1), from.low j at.0 yes.1,
+            around_le (unused (free k) start (τ k).wave) (on_tiles g rest k) p l unused_le,
+            rw (at.1, at.2) at (around_some g rest j at.0), flow-add g t rest j,
+            flow_four_at_most g (λ i. t i + rest i) (λ i m. omega (arith, set_is g τ i)) j at.0);
         held = λ p l is. on_each g k p (λ (r : (ℕ → ℕ) → ℕ). bit (free k) p ≡ r (λ j. 1 - one_at site j)
-            → bit start p ≡ r (λ j. s * one_at site j) → bit (τ k).wave p ≡ r (toppled g τ)
+            → bit start p ≡ r (λ j. s * one_at site j) → bit (τ k).wave p ≡ r t
             → (bit (free k) p ≡ 0) × (bit (τ k).wave p ≡ 0)) l
             (λ j m o b i. (grind (arith, nat_tests), grind (arith, nat_tests)))
-            (λ o b i. absurd (omega arith)) (open' k p l) (begins p l) (wave.inside k p l);
+            (λ o b i. absurd (omega arith)) (from.all_open k p l) (begins p l) (wave.inside k p l);
       }
 
   -- only sites topple in a visit
@@ -123,28 +116,24 @@ module _ {g : Grid} {site : ℕ} {h free : ℕ → ℕ} (from : IsStart g site h
       → Starts g site s k start → toppled g τ site + s ≤ 1 → Stabilises g h w
       → Calms (τ k) (free k) start (on_tiles g (λ j. w j - toppled g τ j) k)
   calm {τ} k start s w wave begins first stable =
-      let inside = from.inside in
-      let open' = from.all_open in
+      let t = toppled g τ in
+      let rest : ℕ → ℕ = λ j. w j - t j in
       let below = wave.needed w stable in
       record {
         start_in = λ p low.
-            let more = least_action g h (toppled g τ) w site 1 inside stable below in
-            let some : s ≤ w site - toppled g τ site = grind arith in
-            let le = on_tiles_le g (λ j. s * one_at site j) (λ j. w j - toppled g τ j) k p low
-            (λ j l. let e = cases_eq site j in grind (arith, nat_tests)) in
-            omega arith;
+            let more = least_action g h t w site 1 from.inside stable below in
+            let high = from.high in
+            let some : s ≤ w site - t site = grind arith in
+            omega (arith, begins p low, on_tiles_le g (λ j. s * one_at site j) rest k p low
+            (λ j l. let e = cases_eq site j in grind (arith, nat_tests)));
         at_most_three = λ p low is.
-            let yes = open_site g site free k p open' low is in
-            let t = there_again g k p low yes.0 in
+            let yes = open_site g site free k p from.all_open low is in
+            let at = there_again g k p low yes.0 in
             let j = site_on g k p in
-            let back = ap (λ m. had (τ m) (place_of g j)) t.1 ∙ ap (had (τ k)) t.2 in
-            let r = λ (i : ℕ). w i - toppled g τ i in
-            let some = rw (t.1, t.2) at (around_some g r j t.0) in
-            let here = on_site g r k p yes.0 in
-            let set' = on_site g (toppled g τ) k p yes.0 in
-            let all = flow_same g (λ i. toppled g τ i + r i) w (λ i l. let le = below i l in omega arith) j t.0 in
-            let both = flow-add g (toppled g τ) r j in
-            omega arith;
+            omega (arith, rw (at.1, at.2) at (wave.at_open j at.0 yes.1), stable.at_most_three j at.0, below j at.0,
+            rw (at.1, at.2) at (around_some g rest j at.0), on_site g rest k p yes.0, on_site g t k p yes.0,
+            wave.inside k p low, flow-add g t rest j,
+            flow_same g (λ i. t i + rest i) w (λ i l. omega (arith, below i l)) j at.0);
       }
 
   -- whatever stabilises the pile topples the sites that topple in a visit
@@ -155,29 +144,31 @@ module _ {g : Grid} {site : ℕ} {h free : ℕ → ℕ} (from : IsStart g site h
       → toppled g τ j + at_site g (only k (bit new)) j ≤ w j
   unfolding only
   needed_next {τ} {k = k} {start = start} s wave begins first visits w stable j l =
-      let r = λ (i : ℕ). w i - toppled g τ i in
-      let c = calm k start s w wave begins first stable in
-      let least = visits.least (on_tiles g r k) c (place_of g j) (place_below g j) in
-      let value = at_on g r j l in
+      let rest : ℕ → ℕ = λ i. w i - toppled g τ i in
+      let least = visits.least (on_tiles g rest k) (calm k start s w wave begins first stable) (place_of g j)
+      (place_below g j) in
+      let value = at_on g rest j l in
+      let below = wave.needed w stable j l in
       grind (arith, nat_tests)
 
   -- the grains under way arrive
   pub handed_over : {τ σ : ℕ → Tile} {away : ℕ → ℕ → ℕ} → IsUnderWay g site h τ away → Gains free τ σ away
       → IsUnderWay g site h σ (λ m p. 0)
   handed_over {τ} {σ} wave gains =
-      let same : (j : ℕ) → toppled g σ j ≡ toppled g τ j =
+      let t = toppled g τ in
+      let same : (j : ℕ) → toppled g σ j ≡ t j =
       λ j. gains.wave (tile_of g j) (place_of g j) (place_below g j) in
-      let flows = flow_same g (toppled g σ) (toppled g τ) (λ i l. same i) in
+      let flows = flow_same g (toppled g σ) t (λ i l. same i) in
       record {
         inside = λ m p l. on_tiles_is g (λ k q. bit (σ k).wave q) m p l
-            (λ no. gains.wave m p l ∙ wave.inside m p l ∙ off_site g (toppled g τ) m p no);
+            (λ no. gains.wave m p l ∙ wave.inside m p l ∙ off_site g t m p no);
         at_open = λ j l ne.
-            let f = flows j l in
-            let four = flow_four_at_most g (toppled g τ) (λ i m. set_is g τ i) j l in
-            let to = gains.each (tile_of g j) (place_of g j) (place_below g j) (free_at j l ne) (omega arith) in
-            omega arith;
-        at_held =
-            let to = gains.modulo (tile_of g site) (place_of g site) (place_below g site) in
-            omega arith;
-        needed = λ w stable j l. let e = same j in let le = wave.needed w stable j l in omega arith;
+            let four = flow_four_at_most g t (λ i m. set_is g τ i) j l in
+            let has = wave.at_open j l ne in
+            let low = from.low j l ne in
+            omega (arith, flows j l,
+            gains.each (tile_of g j) (place_of g j) (place_below g j) (free_at j l ne) (omega arith));
+        at_held = omega (arith, wave.at_held, flows site from.inside,
+            gains.modulo (tile_of g site) (place_of g site) (place_below g site));
+        needed = λ w stable j l. omega (arith, same j, wave.needed w stable j l);
       }
