@@ -91,7 +91,7 @@ held_has {g} {site} {ρ} {τ} more past test =
 pub record AreWaves (g : Grid) (site : ℕ) (more : Bool) (τ σ : ℕ → Tile) (c d : ℕ → Count) : Type 0 where
   pub quiet : AreQuiet σ
   pub empty : more ≡ true → heights_on g σ site ≡ 0
-  pub advances : Advances g (λ j. 0) (heights_before g site τ) (grown_on g c d) (heights_now g site more σ)
+  pub advances : Advances g (grown_on g c c) (heights_before g site τ) (grown_on g c d) (heights_now g site more σ)
   pub counts : (m p : ℕ) → p < 64 → counted (d m) p ≡ counted (c m) p + on_tiles g (grown_on g c d) m p
 
 pub none_grown : (g : Grid) (c : ℕ → Count) → 0 ≡ topplings g (grown_on g c c)
@@ -103,17 +103,12 @@ none_counted g c m p low = omega (arith, on_below g (grown_on g c c) m p 0 low (
 
 pub waves_begin : (g : Grid) (site : ℕ) (τ : ℕ → Tile) (c : ℕ → Count) → AreAtRest g site τ
     → AreWaves g site true τ τ c c
-waves_begin g site τ c rest =
-    let h = heights_before g site τ in
-    let zero : (j : ℕ) → 0 ≡ grown_on g c c j = λ j. omega arith in
-    let none : (λ (j : ℕ). 0) ≡ grown_on g c c = λ i j. zero j i in
-    record {
-      quiet = rest.quiet;
-      empty = λ is. rest.empty;
-      advances = subst (λ (u : ℕ → ℕ). Advances g (λ j. 0) h u h) none
-          (record { underway = λ s before. before; weight_pays = omega arith; grains_fall = omega arith });
-      counts = none_counted g c;
-    }
+waves_begin g site τ c rest = record {
+  quiet = rest.quiet;
+  empty = λ is. rest.empty;
+  advances = record { underway = λ s before. before; weight_pays = omega arith; grains_fall = omega arith };
+  counts = none_counted g c;
+}
 
 lost_more : (g : Grid) (u v w : ℕ → ℕ) → ((j : ℕ) → j < sites g → w j ≡ u j + v j) → lost g w ≡ lost g u + lost g v
 lost_more g u v w e =
@@ -231,7 +226,7 @@ few_yet {g} {site} {τ = τ} {c = c} {d = d} sides waves =
     let each = sum_below_most (sites g) 7 h
     (λ j l. omega (arith, height_low (τ (tile_of g j)) (place_of g j), at_most_one (eqb site j))) in
     let few : topplings g (grown_on g c d) < 2 ^ 32 = omega
-    (arith, sites_limit g sides, weight_bound g h sides, sum_below-zero (sites g), waves.advances.weight_pays) in
+    (arith, sites_limit g sides, weight_bound g h sides, none_grown g c, waves.advances.weight_pays) in
     (few, omega (arith, lost_few g (grown_on g c d)))
 
 pub few_counted : {g : Grid} {site : ℕ} {more : Bool} {τ σ : ℕ → Tile} {c d : ℕ → Count} (m p : ℕ)
@@ -248,5 +243,5 @@ pub waves_end : {g : Grid} {site : ℕ} {τ σ : ℕ → Tile} {c d : ℕ → Co
 waves_end {g} {site} {τ} {σ} {c} {d} waves =
     let h = heights_before g site τ in
     underway_end g h (grown_on g c d) (heights_on g σ)
-    (waves.advances.underway h (underway_start g h (λ j. 0) (λ j l. refl)))
+    (waves.advances.underway h (underway_start g h (grown_on g c c) (λ j l. omega arith)))
     (λ j l. height_low (σ (tile_of g j)) (place_of g j))

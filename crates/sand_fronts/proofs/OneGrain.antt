@@ -52,10 +52,8 @@ module _ {g : Grid} {site : ℕ} {ts : List Tile} {here grain free : ℕ} {t : T
   pub grain_added : heights_on g (tile_at ts) site < 3 → (j : ℕ) → j < sites g
       → heights_on g (tile_at (set ts here t)) j ≡ heights_on g (tile_at ts) j + one_at site j
   grain_added few j l =
-      let h = grain_heights j l in
-      let a = height_low (tile_at ts (tile_of g j)) (place_of g j) in
       let either = cases_eq j site in
-      grind (arith, nat_tests)
+      grind (arith, nat_tests, grain_heights j l, height_low (tile_at ts (tile_of g j)) (place_of g j))
 
   -- a place that is free gets no grain, and a place that is not free is never due
   pub calm_quiet : AreQuiet (tile_at (set ts here t))
@@ -64,36 +62,26 @@ module _ {g : Grid} {site : ℕ} {ts : List Tile} {here grain free : ℕ} {t : T
     none_due = λ m p low.
         let clear = gets.quiet.clear m p low in
         let none = gets.quiet.none_due m p low in
-        let wave = gains.wave m p low in
         let held = gets.held p low in
-        let few = bit_le free p in
-        let a = height_low (tile_at ts m) p in
-        let all = gains.modulo m p low in
-        let due = gains.due_free (λ k q l. omega (arith, gets.quiet.none_due k q l)) m p low in
-        let each = gains.each m p low in
         let either = cases_eq m here in
-        let same = only_same here m (bit grain) p in
-        let other = only_other here m (bit grain) p in
-        grind arith;
+        grind (arith, bit_le free p, height_low (tile_at ts m) p, gains.wave m p low, gains.modulo m p low,
+        gains.due_free (λ k q l. omega (arith, gets.quiet.none_due k q l)) m p low, gains.each m p low,
+        only_same here m (bit grain) p, only_other here m (bit grain) p);
   }
 
   -- ---- if the site has no 4, the pile is settled
 
   pub few_before : heights_on g (tile_at (set ts here t)) site ≢ 0 → heights_on g (tile_at ts) site < 3
-  few_before some =
-      let h = grain_heights site gets.place.site_inside in
-      let a = height_low (tile_at ts (tile_of g site)) (place_of g site) in
-      grind (arith, nat_tests)
+  few_before some = grind (arith, nat_tests, grain_heights site gets.place.site_inside,
+      height_low (tile_at ts (tile_of g site)) (place_of g site))
 
   -- ---- if the site is 0 in the planes, it has 4
 
   pub due_heights : heights_on g (tile_at (set ts here t)) site ≡ 0 → (j : ℕ) → j < sites g
       → heights_before g site (tile_at (set ts here t)) j ≡ heights_on g (tile_at ts) j + one_at site j
   due_heights empty j l =
-      let h = grain_heights j l in
-      let a = height_low (tile_at ts (tile_of g j)) (place_of g j) in
       let either = cases_eq j site in
-      grind (arith, nat_tests)
+      grind (arith, nat_tests, grain_heights j l, height_low (tile_at ts (tile_of g j)) (place_of g j))
 
 -- ---- the word of the site's tile, without the site and with it
 
@@ -116,14 +104,12 @@ module _ {g : Grid} {site here grain whole : ℕ} {free : List ℕ} (word : IsWo
   pub without : (p : ℕ) → p < 64 → (bit (bit_xor whole grain) p ≡ on_tiles g (λ j. 1 - one_at site j) here p)
       × (bit (bit_xor whole grain) p + bit grain p ≤ 1)
   without p low =
-      let r = ap (λ w. bit w p) word.read in
-      let few = bit_le whole p in
-      let h = half whole grain p in
       let b = both_le whole grain p in
       let b0 = b.0 in let b1 = b.1 in let b2 = b.2 in
-      let split = but_site here p low in
-      let o = only_same here here (bit grain) p refl in
-      (omega arith, omega arith)
+      let split = but_site here p low ∙ ap (λ n. on_tiles g (λ j. 1 - one_at site j) here p + n)
+      (only_same here here (bit grain) p refl) in
+      let h = ap (λ w. bit w p) word.read in
+      (omega (arith, half whole grain p, bit_le whole p), omega (arith, half whole grain p))
 
   pub taken_out : AreOpen g site (slice_index (set free here (bit_xor whole grain)))
   taken_out = set_each 0 (λ k w. (p : ℕ) → p < 64 → bit w p ≡ on_tiles g (λ j. 1 - one_at site j) k p)
