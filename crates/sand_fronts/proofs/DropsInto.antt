@@ -1,5 +1,5 @@
 -- A drop that is written into lists by site.
-use Rattle.std.proofs.Common.{ℕ, List, length, get_or, ltb, eqb, refl, ◌≡◌, ◌+◌, ◌%◌, ◌^◌, ◌<◌, sym, ◌∙◌, ap, subst, arith}
+use Rattle.std.proofs.Common.{ℕ, List, length, get_or, ltb, eqb, refl, ◌≡◌, ◌+◌, ◌%◌, ◌^◌, ◌<◌, ◌≤◌, sym, ◌∙◌, ap, subst, arith}
 use Rattle.std.proofs.Math.ListN.{set}
 use Rattle.std.proofs.lemmas.Bool.Decides.{nat_tests}
 use Rattle.std.proofs.lemmas.List.{length-set}
@@ -24,7 +24,7 @@ use Rattle.sand_fronts.specs.Boards.{tiles_of, counts_of, marks_of, grown, Count
 use Rattle.sand_fronts.specs.WrittenBack.{risen, AreLow, Follows, IsWrittenBack}
 use Rattle.sand_fronts.specs.TiledPiles.{TiledView, tiled_view, by_site}
 use Rattle.sand_fronts.proofs.OnTiles.{place_below, on_below, on_each, height_low}
-use Rattle.sand_fronts.proofs.NewPiles.{few_at_sites, by_site_at, by_site_long, by_site_is}
+use Rattle.sand_fronts.proofs.NewPiles.{few_at_sites, by_site_at, by_site_long, by_site_is, by_site_none}
 use Rattle.sand_fronts.proofs.Gained.{set_each}
 use Rattle.sand_fronts.proofs.OnPiles.{avalanche_same}
 use Rattle.sand_fronts.proofs.OneGrain.{calm_settled}
@@ -63,17 +63,17 @@ before {g} {site} {s} {c} {v} view counts inside none listed low each few =
       few = λ j l. few j (omega arith);
     }
 
--- the drop in the lists: l lists the heights on the tiles t, and the pile has settled as the odometer grew from u to w
-pub record DropsInto (g i : Grid) (site : ℕ) (t : Sand) (h l u w : List ℕ) (a : Avalanche) : Type 0 where
-  pub heights : l ≡ by_site i (heights_on i (tiles_of t))
-  pub settled : IsSettled g (λ j. get_or h j 0 + one_at site j) (risen u w) (λ j. get_or l j 0)
-  pub avalanche : IsAvalanche g site (risen u w) a
-
--- by the grid of the view, and that of the board after the drop
-seen : {g i k : Grid} {site : ℕ} {t : Sand} {h l u w : List ℕ} {a : Avalanche} → g ≡ k → i ≡ g
-    → DropsInto g g site t h l u w a → DropsInto k i site t h l u w a
-seen {g} {i} {k} {site} {t} {h} {l} {u} {w} {a} view shape drops =
-    subst (λ x. DropsInto x i site t h l u w a) view (subst (λ x. DropsInto g x site t h l u w a) (sym shape) drops)
+-- after the drop, which leaves the pile that contracts see as v: l lists its heights, and the pile on the grid g has
+-- settled as the odometer grew from u to w
+abbrev pub DropsInto : Grid → ℕ → TiledView → List ℕ → List ℕ → List ℕ → List ℕ → Avalanche → Type 0
+DropsInto g site v h l u w a = record {
+  grid : v.grid ≡ g;
+  uncounted : (j : ℕ) → get_or v.times j 0 ≡ 0;
+  heights : l ≡ v.heights;
+  never_falls : (j : ℕ) → get_or u j 0 ≤ get_or w j 0;
+  settled : IsSettled g (λ j. get_or h j 0 + one_at site j) (risen u w) (λ j. get_or l j 0);
+  avalanche : IsAvalanche g site (risen u w) a;
+}
 
 -- a list where a site has a grain more, f of whose heights are written
 with_grain : (f : ℕ → ℕ) (site : ℕ) (h : List ℕ) → site < length h → ((j : ℕ) → f (get_or h j 0) ≡ get_or h j 0)
@@ -88,14 +88,17 @@ module _ {g : Grid} {site : ℕ} {s : Sand} {c : Counts} {v : TiledView} {h u : 
   pub calm_into : (t : Sand) {a : Avalanche}
       → ((j : ℕ) → j < sites g → heights_on g (tiles_of t) j ≡ heights_on g (tiles_of s) j + one_at site j)
       → ((y : ℕ → ℕ) → ((j : ℕ) → j < sites g → y j ≡ 0) → IsAvalanche g site y a)
-      → DropsInto v.grid g site t h (set h site (get_or h site 0 + 1)) u u a
+      → DropsInto v.grid site (tiled_view g t c) h (set h site (get_or h site 0 + 1)) u u a
   calm_into t {a} grain calm =
       let l = set h site (get_or h site 0 + 1) in
       let now = with_grain (λ n. n) site h at.within (λ j. refl) in
       let is : (j : ℕ) → j < sites g → get_or l j 0 ≡ heights_on g (tiles_of t) j =
       λ j less. omega (arith, now j, grain j less, at.heights j less) in
-      seen at.grid refl (record {
+      subst (λ k. DropsInto k site (tiled_view g t c) h l u u a) at.grid (record {
+        grid = refl;
+        uncounted = by_site_none g (counted_on g (counts_of c)) (λ j less. at.none _ _ (place_below g j));
         heights = by_site_is g (heights_on g (tiles_of t)) l (length-set h site _ ∙ at.heights_each) is;
+        never_falls = λ j. omega arith;
         settled = calm_settled g (λ j. get_or h j 0 + one_at site j) (risen u u) (λ j. get_or l j 0) (λ j less. now j)
             (λ j less. omega arith)
             (λ j less. omega (arith, is j less, height_low (tiles_of t (tile_of g j)) (place_of g j)));
@@ -129,20 +132,24 @@ module _ {g : Grid} {site : ℕ} {s : Sand} {c : Counts} {v : TiledView} {h u : 
     -- what has toppled is written into the odometer, and what has moved into the heights
     pub topples_into : {e : Counts} {l w : List ℕ} {i : Grid} {a : Avalanche}
         → Follows g (set h site ((get_or h site 0 + 1) % 4)) l u w → IsWrittenBack g d e u w → i ≡ g
-        → IsAvalanche g site (grown g c d) a → DropsInto v.grid i site t h l u w a
-    topples_into {l = l} {w = w} {a = a} follows written shape avalanche =
+        → IsAvalanche g site (grown g c d) a → DropsInto v.grid site (tiled_view i t e) h l u w a
+    topples_into {e} {l} {w} {i} {a} follows written shape avalanche =
         let rises : (j : ℕ) → j < sites g → grown g c d j ≡ risen u w j =
         λ j less. omega (arith, written.added j less, at.none (tile_of g j) (place_of g j) (place_below g j)) in
         let is : (j : ℕ) → j < sites g → get_or l j 0 ≡ heights_on g (tiles_of t) j = λ j less. omega (arith,
         at.heights j less, height_low (tiles_of t (tile_of g j)) (place_of g j), follows.gains j less,
         with_grain (λ n. n % 4) site h at.within (λ i. omega (arith, at.low i)) j,
         flow_same g (grown g c d) (risen u w) rises j less, has.settled.toppled.balance j less) in
-        seen at.grid shape (record {
+        subst (λ k. DropsInto k site (tiled_view i t e) h l u w a) at.grid
+        (subst (λ k. DropsInto g site (tiled_view k t e) h l u w a) (sym shape) (record {
+          grid = refl;
+          uncounted = by_site_none g (counted_on g (counts_of e)) (λ j less. written.none _ _ (place_below g j));
           heights = by_site_is g (heights_on g (tiles_of t)) l
               (follows.heights_each ∙ length-set h site _ ∙ at.heights_each) is;
+          never_falls = follows.never_falls;
           settled = settled_same g (λ j. heights_on g (tiles_of s) j + one_at site j)
               (λ j. get_or h j 0 + one_at site j) (grown g c d) (risen u w) (heights_on g (tiles_of t))
               (λ j. get_or l j 0) (λ j less. omega (arith, at.heights j less)) rises
               (λ j less. sym (is j less)) has.settled;
           avalanche = avalanche_same g site (grown g c d) (risen u w) a rises avalanche;
-        })
+        }))

@@ -1,5 +1,5 @@
 -- The result of a drop on a pile on tiles, as its contracts see it.
-use Rattle.std.proofs.Common.{ℕ, true, false, ⊎_elim, ltb, ◌≡◌, ◌+◌, ◌-◌, ◌*◌, ◌^◌, ◌<◌, ◌≤◌, sym, ◌∙◌, ap, subst, arith}
+use Rattle.std.proofs.Common.{ℕ, true, false, ⊎_elim, ltb, ◌≡◌, ◌+◌, ◌-◌, ◌*◌, ◌^◌, ◌<◌, ◌≤◌, refl, sym, ◌∙◌, ap, subst, arith}
 use Rattle.std.specs.Prelude.{slice_index}
 use Rattle.std.proofs.lemmas.Bool.{cases_Bool}
 use Rattle.sand_model.specs.Grid.{Grid, sites, missing}
@@ -30,9 +30,8 @@ avalanche_same g site u v a same was = record {
   size = was.size ∙ sum_below_same (sites g) u v same;
   area = was.area ∙ sum_below_same (sites g) (λ j. one_if (has_toppled u j))
       (λ j. one_if (has_toppled v j)) (λ j l. ap (λ m. one_if (ltb 0 m)) (same j l));
-  within = λ j l some. was.within j l (let e = same j l in omega arith);
-  reached = λ far.
-      let one = was.reached far in (one.0, one.1, let e = same one.0 one.1 in let some = one.2 in omega arith, one.3);
+  within = λ j l some. was.within j l (omega (arith, same j l));
+  reached = λ far. let one = was.reached far in (one.0, one.1, omega (arith, same one.0 one.1, one.2), one.3);
   all_lost = was.all_lost ∙ sum_below_same (sites g) (λ j. missing g j * u j)
       (λ j. missing g j * v j) (λ j l. ap (λ m. missing g j * m) (same j l));
 }
@@ -59,12 +58,14 @@ sites_toppled g v words toppled m p low is = ⊎_elim
     (cases_Bool (is_site g m p))
 
 -- a drop at a site leads from v to w
-pub record Dropped (v : TiledView) (site : ℕ) (w : TiledView) (a : Avalanche) : Type 0 where
-  pub by_site : IsTiledView w
-  pub never_falls : (j : ℕ) → slice_index v.times j ≤ slice_index w.times j
-  pub settled : IsSettled v.grid (λ j. slice_index v.heights j + one_at site j)
-      (toppled_between v w) (slice_index w.heights)
-  pub avalanche : IsAvalanche v.grid site (toppled_between v w) a
+abbrev pub Dropped : TiledView → ℕ → TiledView → Avalanche → Type 0
+Dropped v site w a = record {
+  grid : w.grid ≡ v.grid;
+  by_site : IsTiledView w;
+  never_falls : (j : ℕ) → slice_index v.times j ≤ slice_index w.times j;
+  settled : IsSettled v.grid (λ j. slice_index v.heights j + one_at site j) (toppled_between v w) (slice_index w.heights);
+  avalanche : IsAvalanche v.grid site (toppled_between v w) a;
+}
 
 pub dropped : {g i : Grid} {site : ℕ} (s : Sand) {t : Sand} {c d : Counts} {v : TiledView} {a : Avalanche}
     → tiled_view g s c ≡ v → i ≡ g → HasSettled g (λ j. heights_on g (tiles_of s) j + one_at site j) t c d
@@ -79,6 +80,7 @@ dropped {g} {i} {site} s {t} {c} {d} {v} {a} view shape has is =
     λ j l. omega (arith, by_site_at g before j l, by_site_at g after j l) in
     subst (λ x. Dropped x site (tiled_view i t d) a) view
     (subst (λ x. Dropped (tiled_view g s c) site (tiled_view x t d) a) (sym shape) (record {
+      grid = refl;
       by_site = by_site_view g t d;
       never_falls = λ j. by_site_le g before after j
           (λ l. omega (arith, has.counted (tile_of g j) (place_of g j) (place_below g j)));

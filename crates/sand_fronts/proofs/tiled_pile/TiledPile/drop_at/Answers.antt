@@ -34,12 +34,5 @@ invariant_of-self c =
 pub returns : goal.returns
 returns c =
     let is = c.topple_grain-total.ensures in
-    let drops = dropped c.self.inside.sand c.self.view_is is.shape is.settled
-    (c.avalanche_of.ensures.avalanche _ is.marked is.size is.lost) in
-    record {
-      grid = is.shape ∙ ap (λ (v : TiledView). v.grid) c.self.view_is;
-      by_site = drops.by_site;
-      never_falls = drops.never_falls;
-      settled = drops.settled;
-      avalanche = drops.avalanche;
-    }
+    dropped c.self.inside.sand c.self.view_is is.shape is.settled
+    (c.avalanche_of.ensures.avalanche _ is.marked is.size is.lost)

@@ -56,18 +56,8 @@ invariant_of-self c =
     }
 
 pub returns-then-heights-site-lt3 : goal.returns-then-heights-site-lt3
-returns-then-heights-site-lt3 c =
-    let before = at (goal.at.returns-then-heights-site-lt3 c).After-self in
-    let into =
-    calm_into before c.add_grain.new.sand c.add_grain.ensures.heights (c.calm.ensures c.self.inside.board.shape) in
-    record {
-      grid = before.grid;
-      uncounted = λ j. ap (λ (v : TiledView). slice_index v.times j) c.self.view_is ∙ c.requires.uncounted j;
-      heights = into.heights;
-      never_falls = λ j. omega arith;
-      settled = into.settled;
-      avalanche = into.avalanche;
-    }
+returns-then-heights-site-lt3 c = calm_into (at (goal.at.returns-then-heights-site-lt3 c).After-self)
+    c.add_grain.new.sand c.add_grain.ensures.heights (c.calm.ensures c.self.inside.board.shape)
 
 -- ---- the site topples
 
@@ -116,19 +106,7 @@ invariant_of-self-2 c =
 
 pub returns : goal.returns
 returns c =
-    let before = at (goal.at.returns c).After-self in
     let is = c.topple_grain-total.ensures in
     let written = c.write_back.ensures.written in
-    let g = c.topple_grain-total.new.board.shape in
-    let v = grown c.self.inside.board.shape c.self.inside.counts c.topple_grain-total.new.counts in
-    let into = topples_into before is.settled c.write_back.ensures.follows written is.shape
-    (c.avalanche_of.ensures.avalanche v (rw written.marks is.marked) is.size is.lost) in
-    record {
-      grid = is.shape ∙ before.grid;
-      uncounted = by_site_none g (counted_on g (counts_of c.write_back.new.counts))
-          (λ j l. written.none _ _ (place_below g j));
-      heights = into.heights;
-      never_falls = c.write_back.ensures.follows.never_falls;
-      settled = into.settled;
-      avalanche = into.avalanche;
-    }
+    topples_into (at (goal.at.returns c).After-self) is.settled c.write_back.ensures.follows written is.shape
+    (c.avalanche_of.ensures.avalanche _ (rw written.marks is.marked) is.size is.lost)
