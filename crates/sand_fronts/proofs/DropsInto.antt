@@ -22,7 +22,7 @@ use Rattle.sand_fronts.specs.Drops.{heights_on, counted_on}
 use Rattle.sand_fronts.specs.Marking.{AreToppled}
 use Rattle.sand_fronts.specs.Boards.{tiles_of, counts_of, marks_of, grown, CountsSites, HasSettled}
 use Rattle.sand_fronts.specs.WrittenBack.{risen, AreLow, Follows, IsWrittenBack}
-use Rattle.sand_fronts.specs.TiledPiles.{TiledView, tiled_view, by_site}
+use Rattle.sand_fronts.specs.TiledPiles.{TiledView, tiled_view}
 use Rattle.sand_fronts.proofs.OnTiles.{place_below, on_below, on_each, height_low}
 use Rattle.sand_fronts.proofs.NewPiles.{few_at_sites, by_site_at, by_site_long, by_site_is, by_site_none}
 use Rattle.sand_fronts.proofs.Gained.{set_each}

@@ -1,5 +1,5 @@
 -- From one wave of a drop to the next.
-use Rattle.std.proofs.Common.{ℕ, Bool, true, false, cond, eqb, ltb, leb, ◌&&◌, List, ◌≡◌, ◌≢◌, ◌+◌, ◌*◌, ◌^◌, ◌<◌, ◌≤◌, refl, sym, ◌∙◌, ap, subst, arith, ⊎_elim}
+use Rattle.std.proofs.Common.{ℕ, Bool, true, false, cond, eqb, ltb, leb, ◌&&◌, List, ◌≡◌, ◌≢◌, ◌+◌, ◌*◌, ◌^◌, ◌<◌, ◌≤◌, refl, sym, ◌∙◌, ap, arith, ⊎_elim}
 use Rattle.std.proofs.Math.Nat.{mul-le-mul_right}
 use Rattle.std.proofs.lemmas.Bool.{cases_eq, leb-true, leb-false}
 use Rattle.std.proofs.lemmas.Bool.Decides.{nat_tests}
@@ -8,7 +8,7 @@ use Rattle.sand_model.specs.Sand.{IsSettled, flow, one_at, topplings, lost, weig
 use Rattle.sand_model.specs.Underway.{Advances}
 use Rattle.sand_model.proofs.Flow.{flow_le}
 use Rattle.sand_model.proofs.Sandpile.{flow_ones, weight_after}
-use Rattle.sand_model.proofs.SumsBelow.{sum_below_same, sum_below_le, sum_below-add, sum_below-scale, sum_below-zero, sum_below-one_at, one_at_same, one_at_other}
+use Rattle.sand_model.proofs.SumsBelow.{sum_below_same, sum_below_le, sum_below-add, sum_below-scale, sum_below-one_at, one_at_same, one_at_other}
 use Rattle.sand_model.proofs.Lists.{all_or_one, at_most_one}
 use Rattle.sand_model.proofs.Bounds.{at_most_sum_below, sites_limit, weight_bound}
 use Rattle.sand_model.proofs.Underway.{underway_start, underway_end}

@@ -7,6 +7,7 @@ use Rattle.sand_model.specs.Sand.{IsSettled, one_at}
 use Rattle.sand_model.specs.Lists.{one_if}
 use Rattle.sand_model.proofs.Sandpile.{settled_same}
 use Rattle.sand_model.proofs.SumsBelow.{sum_below_same}
+use Rattle.sand_tiles.specs.Places.{height}
 use Rattle.sand_tiles.specs.Counts.{counted}
 use Rattle.sand_fronts.specs.declared.board.Board.{Board}
 use Rattle.sand_fronts.specs.declared.sand.Sand.{Sand}
@@ -98,9 +99,13 @@ few_now g s c counts few m p low = omega (arith, few_at_sites g (counts_of c) (2
 
 -- ---- reading a site
 
-pub site_read : {A : Type 0} (f : A → ℕ → ℕ) (all : ℕ → A) (g : Grid) (site k place : ℕ) (x : A) → site < sites g
-    → k ≡ tile_of g site → place ≡ place_of g site → x ≡ all k
-    → f x place ≡ slice_index (by_site g (λ j. f (all (tile_of g j)) (place_of g j))) site
-site_read {A = A} f all g site k place x inside tile at read =
-    ap (λ (y : A). f y place) read ∙ ap (λ i. f (all i) place) tile ∙ ap (f (all (tile_of g site))) at
-    ∙ sym (by_site_at g (λ j. f (all (tile_of g j)) (place_of g j)) site inside)
+-- the height and the count at the place of the site in column x and row y
+pub site_seen : (g : Grid) (s : Sand) (c : Counts) {v : TiledView} {k p : ℕ} (x y : ℕ) → tiled_view g s c ≡ v
+    → y * v.grid.width + x < sites v.grid → k ≡ tile_of g (y * g.width + x) → p ≡ place_of g (y * g.width + x)
+    → (height (tiles_of s k) p ≡ slice_index v.heights (y * v.grid.width + x))
+    × (counted (counts_of c k) p ≡ slice_index v.times (y * v.grid.width + x))
+site_seen g s c {k = k} {p} x y view inside tile place = subst (λ (v : TiledView).
+    y * v.grid.width + x < sites v.grid → (height (tiles_of s k) p ≡ slice_index v.heights (y * v.grid.width + x))
+    × (counted (counts_of c k) p ≡ slice_index v.times (y * v.grid.width + x))) view
+    (λ l. rw (tile, place) (sym (by_site_at g (heights_on g (tiles_of s)) (y * g.width + x) l),
+    sym (by_site_at g (counted_on g (counts_of c)) (y * g.width + x) l))) inside

@@ -8,15 +8,16 @@ use Rattle.sand_fronts.proofs.Reached.{all_within, some_reached, small_reach}
 use Rattle.sand_fronts.proofs.tiled_pile.avalanche_of.Goals as goal
 
 pub overflow_cast-result : goal.overflow_cast-result
-overflow_cast-result c =
-    let few = few_in_sets (length c.args.marks.now.sets) (slice_index c.args.marks.now.sets) in
-    record { fits = omega (arith, c.take_all-area.ensures.area, c.requires.fits.0, c.requires.len) }
+overflow_cast-result c = record {
+  fits = omega (arith, c.take_all-area.ensures.area, c.requires.fits.0, c.requires.len,
+      few_in_sets (length c.args.marks.now.sets) (slice_index c.args.marks.now.sets));
+}
 
 pub overflow_cast-result-2 : goal.overflow_cast-result-2
-overflow_cast-result-2 c =
-    let small = small_reach c.args.shape c.args.site c.requires.fits.1 c.requires.site c.requires.at_sites
-    c.take_all-area.ensures.reach in
-    record { fits = omega arith }
+overflow_cast-result-2 c = record {
+  fits = omega (arith, small_reach c.args.shape c.args.site c.requires.fits.1 c.requires.site c.requires.at_sites
+      c.take_all-area.ensures.reach);
+}
 
 pub returns-clause-avalanche : goal.returns-clause-avalanche
 returns-clause-avalanche c v toppled size lost = record {

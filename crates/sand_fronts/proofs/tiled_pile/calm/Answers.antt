@@ -10,8 +10,9 @@ returns c g v none = record {
   origin = refl;
   size = sym (sum_below_none (sites g) v none);
   area = sym (sum_below_none (sites g) (λ j. one_if (ltb 0 (v j)))
-      (λ j l. ap one_if (le-ltb 0 (v j) (let z = none j l in omega arith))));
-  within = λ j l some. let z = none j l in omega arith;
+      (λ j l. ap one_if (le-ltb 0 (v j) (omega (arith, none j l)))));
+  within = λ j l some. omega (arith, none j l);
   reached = λ far. absurd (omega arith);
-  all_lost = sym (sum_below_none (sites g) (λ j. missing g j * v j) (λ j l. let e = ap (λ x. missing g j * x) (none j l) in omega arith));
+  all_lost = sym (sum_below_none (sites g) (λ j. missing g j * v j)
+      (λ j l. omega (arith, ap (λ x. missing g j * x) (none j l))));
 }

@@ -1,6 +1,5 @@
-use Rattle.std.proofs.Common.{◌∙◌, ap}
+use Rattle.std.proofs.Common.{◌∙◌}
 use Rattle.sand_fronts.specs.Boards.{counts_of}
-use Rattle.sand_fronts.specs.TiledPiles.{TiledView}
 use Rattle.sand_fronts.proofs.NewPiles.{counts_sites}
 use Rattle.sand_fronts.proofs.OnPiles.{dropped, few_now, pile_after, sites_toppled}
 use Rattle.sand_fronts.proofs.tiled_pile.TiledPile.drop_at.Goals as goal

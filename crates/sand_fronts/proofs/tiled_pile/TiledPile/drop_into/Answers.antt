@@ -1,12 +1,8 @@
 use Rattle.std.proofs.Common.{length, ◌∙◌, ap, arith, rules}
-use Rattle.std.specs.Prelude.{slice_index}
 use Rattle.std.proofs.lemmas.List.{length-set}
 use Rattle.sand_fronts.specs.Marking.{MarksView}
-use Rattle.sand_fronts.specs.TiledPiles.{TiledView}
-use Rattle.sand_fronts.specs.Boards.{counts_of, grown}
-use Rattle.sand_fronts.specs.Drops.{counted_on}
-use Rattle.sand_fronts.proofs.OnTiles.{place_below}
-use Rattle.sand_fronts.proofs.NewPiles.{by_site_none, counts_no_site}
+use Rattle.sand_fronts.specs.Boards.{counts_of}
+use Rattle.sand_fronts.proofs.NewPiles.{counts_no_site}
 use Rattle.sand_fronts.proofs.OnPiles.{pile_after, sites_toppled}
 use Rattle.sand_fronts.proofs.DropsInto.{Before, before, calm_into, few_toppled, only_marked, topples_into}
 use Rattle.sand_fronts.proofs.tiled_pile.TiledPile.drop_into.Goals.{After-self, After-add_grain, After-topple_grain-total, After-avalanche_of}

@@ -1,4 +1,4 @@
-use Rattle.std.proofs.Common.{◌≡◌, ◌+◌, ◌*◌, ◌∙◌, ap, slice_index, arith}
+use Rattle.std.proofs.Common.{◌≡◌, ◌+◌, ◌*◌, ◌∙◌, ap, arith}
 use Rattle.sand_model.specs.Grid.{column, row}
 use Rattle.sand_fronts.specs.TiledPiles.{TiledView}
 use Rattle.sand_fronts.proofs.Boards.{site_parts}
@@ -7,14 +7,13 @@ use Rattle.sand_fronts.proofs.tiled_pile.TiledPile.times.Goals as goal
 
 same : (c : After-place-column)
     → c.place-column.result.1 * c.args.self.now.grid.width + c.place-column.result.0 ≡ c.args.site
-same c = (site_parts c.args.self.now.grid c.args.site c.place-column.result c.requires.site
-    (c.place-column.ensures ∙ ap (λ (v : TiledView). (column v.grid c.args.site, row v.grid c.args.site)) c.self.view_is)).1
+same c = (site_parts c.args.self.now.grid c.args.site c.place-column.result c.requires.site (c.place-column.ensures
+    ∙ ap (λ (v : TiledView). (column v.grid c.args.site, row v.grid c.args.site)) c.self.view_is)).1
 
 pub times_in-requires-clause-site : goal.times_in-requires-clause-site
 times_in-requires-clause-site c =
-    let e = same (goal.at.times_in-requires-clause-site c).After-place-column in omega (arith, c.requires.site)
+    omega (arith, same (goal.at.times_in-requires-clause-site c).After-place-column, c.requires.site)
 
 pub times_in-requires-clause-bound : goal.times_in-requires-clause-bound
-times_in-requires-clause-bound c =
-    let e = ap (slice_index c.args.self.now.times) (same (goal.at.times_in-requires-clause-bound c).After-place-column) in
-    omega (arith, c.requires.bound)
+times_in-requires-clause-bound c = rw (← same (goal.at.times_in-requires-clause-bound c).After-place-column)
+    at c.requires.bound
