@@ -159,11 +159,11 @@ pub record Waved (g : Grid) (site : ℕ) (more : Bool) (τ σ ρ : ℕ → Tile)
   pub all_lost : lost g (grown_on g c e) ≡ lost g (grown_on g c d) + gone
   pub lighter : weight g (heights_now g site more ρ) < weight g (heights_now g site true σ)
 
-pub waves_more : {g : Grid} {site : ℕ} (more : Bool) {τ σ : ℕ → Tile} {us vs : List Tile} {c : ℕ → Count} {d e : Counts}
-    {size gone : ℕ} → OneMore g site τ σ us vs c d e size gone
-    → more ≡ (ltb 1 size && eqb (heights_on g (tile_at vs) site) 0)
-    → Waved g site more τ σ (tile_at vs) c (counts_of d) (counts_of e) size gone
-waves_more {g} {site} more {τ} {σ} {us} {vs} {c} {d} {e} {size} wave test =
+pub waves_more : {g : Grid} {site : ℕ} {τ σ : ℕ → Tile} {us vs : List Tile} {c : ℕ → Count} {d e : Counts}
+    {size gone height : ℕ} → OneMore g site τ σ us vs c d e size gone → height ≡ heights_on g (tile_at vs) site
+    → Waved g site (ltb 1 size && eqb height 0) τ σ (tile_at vs) c (counts_of d) (counts_of e) size gone
+waves_more {g} {site} {τ} {σ} {us} {vs} {c} {d} {e} {size} {height = height} wave read =
+    let more = ltb 1 size && eqb height 0 in
     let ω = tile_at us in
     let ρ = tile_at vs in
     let counts = wave.counts in
@@ -177,8 +177,8 @@ waves_more {g} {site} more {τ} {σ} {us} {vs} {c} {d} {e} {size} wave test =
     let same : (j : ℕ) → heights_on g ρ j ≡ heights_on g ω j =
     λ j. rw (counts.low (tile_of g j), counts.high (tile_of g j)) in
     let past : HasPassed g site σ ω = record { inside = wave.inside; empty = before.empty refl; whole = whole } in
-    let has = held_has more past (test ∙ ap (λ n. ltb 1 n && eqb (heights_on g ρ site) 0) wave.size_is
-    ∙ ap (λ x. ltb 1 (topplings g t) && eqb x 0) (same site)) in
+    let has = held_has more past (ap (λ n. ltb 1 n && eqb height 0) wave.size_is
+    ∙ ap (λ x. ltb 1 (topplings g t) && eqb x 0) (read ∙ same site)) in
     let leaves : Leaves g site h ω k = record {
       others = λ j l ne. let s = same j in grind (arith, nat_tests);
       held = let s = same site in grind (arith, nat_tests);

@@ -64,7 +64,8 @@ Dropped v site w a = record {
   grid : w.grid ≡ v.grid;
   by_site : IsTiledView w;
   never_falls : (j : ℕ) → slice_index v.times j ≤ slice_index w.times j;
-  settled : IsSettled v.grid (λ j. slice_index v.heights j + one_at site j) (toppled_between v w) (slice_index w.heights);
+  settled : IsSettled v.grid (λ j. slice_index v.heights j + one_at site j) (toppled_between v w)
+      (slice_index w.heights);
   avalanche : IsAvalanche v.grid site (toppled_between v w) a;
 }
 

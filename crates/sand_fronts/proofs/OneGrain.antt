@@ -4,7 +4,7 @@ use Rattle.std.specs.Prelude.{bit_xor, slice_index}
 use Rattle.std.proofs.Math.ListN.{set}
 use Rattle.std.proofs.lemmas.Bool.{cases_eq}
 use Rattle.std.proofs.lemmas.Bool.Decides.{nat_tests}
-use Rattle.std.proofs.lemmas.List.{get_or-set_other, length-set}
+use Rattle.std.proofs.lemmas.List.{get_or_read, get_or-set_other, length-set}
 use Rattle.sand_model.specs.Grid.{Grid, sites}
 use Rattle.sand_model.specs.Sand.{IsSettled, one_at}
 use Rattle.sand_model.proofs.Sandpile.{settled_same}
@@ -19,7 +19,7 @@ use Rattle.sand_fronts.specs.Drops.{heights_on, AreQuiet}
 use Rattle.sand_fronts.proofs.OnTiles.{place_below, at_on, on_sum, height_low}
 use Rattle.sand_fronts.proofs.OneSite.{IsPlace, placed}
 use Rattle.sand_fronts.proofs.Waves.{only_same, only_other}
-use Rattle.sand_fronts.proofs.Gained.{set_each, gains_one}
+use Rattle.sand_fronts.proofs.Gained.{set_each, tile_read, gains_one}
 
 -- nothing topples on a stable pile
 pub calm_settled : (g : Grid) (s u t : ℕ → ℕ) → ((j : ℕ) → j < sites g → t j ≡ s j)
@@ -28,18 +28,20 @@ calm_settled g s u t same none low =
     settled_same g s s u u s t (λ j l. refl) (λ j l. refl) (λ j l. sym (same j l))
     (underway_end g s u s (underway_start g s u none) (λ j l. omega (arith, same j l, low j l)))
 
--- t, the tile of the site with one grain more, replaces that tile in ts; the site is not free
-pub record GetsGrain (g : Grid) (site : ℕ) (ts : List Tile) (here grain free : ℕ) (t : Tile) : Type 0 where
+-- the tile of the site becomes t, with one grain more, in the list ts of tiles; the site is not free
+pub record GetsGrain (g : Grid) (site : ℕ) (ts : List Tile) (here grain free : ℕ) (was t : Tile) : Type 0 where
   pub place : IsPlace g site here grain
   pub inside : here < length ts
+  pub read : was ≡ get_or ts here was
   pub held : (p : ℕ) → p < 64 → bit free p + bit grain p ≤ 1
-  pub receives : Receives (tile_at ts here) t grain free
+  pub receives : Receives was t grain free
   pub quiet : AreQuiet (tile_at ts)
 
-module _ {g : Grid} {site : ℕ} {ts : List Tile} {here grain free : ℕ} {t : Tile}
-    (gets : GetsGrain g site ts here grain free t) where
+module _ {g : Grid} {site : ℕ} {ts : List Tile} {here grain free : ℕ} {was t : Tile}
+    (gets : GetsGrain g site ts here grain free was t) where
   gains : Gains (λ m. free) (tile_at ts) (tile_at (set ts here t)) (only here (bit grain))
-  gains = gains_one (λ m. free) ts here t grain gets.inside gets.receives
+  gains = gains_one (λ m. free) ts here t grain gets.inside
+      (rw (tile_read ts here was gets.inside gets.read) at gets.receives)
 
   grain_heights : (j : ℕ) → j < sites g
       → heights_on g (tile_at (set ts here t)) j ≡ (heights_on g (tile_at ts) j + one_at site j) % 4
@@ -89,10 +91,13 @@ module _ {g : Grid} {site : ℕ} {ts : List Tile} {here grain free : ℕ} {t : T
 pub record IsWordOf (g : Grid) (site here grain whole : ℕ) (free : List ℕ) : Type 0 where
   pub place : IsPlace g site here grain
   pub within : here < length free
-  pub read : whole ≡ get_or free here 0
+  pub read : whole ≡ get_or free here whole
   pub all : AreAllOpen g (slice_index free)
 
 module _ {g : Grid} {site here grain whole : ℕ} {free : List ℕ} (word : IsWordOf g site here grain whole free) where
+  is_whole : whole ≡ get_or free here 0
+  is_whole = get_or_read free here whole word.within word.read 0
+
   -- the places of a tile that stay free, and the site's
   but_site : (k p : ℕ) → p < 64
       → bit (get_or free k 0) p ≡ on_tiles g (λ j. 1 - one_at site j) k p + only here (bit grain) k p
@@ -108,7 +113,7 @@ module _ {g : Grid} {site here grain whole : ℕ} {free : List ℕ} (word : IsWo
       let b0 = b.0 in let b1 = b.1 in let b2 = b.2 in
       let split = but_site here p low ∙ ap (λ n. on_tiles g (λ j. 1 - one_at site j) here p + n)
       (only_same here here (bit grain) p refl) in
-      let h = ap (λ w. bit w p) word.read in
+      let h = ap (λ w. bit w p) is_whole in
       (omega (arith, half whole grain p, bit_le whole p), omega (arith, half whole grain p))
 
   pub taken_out : AreOpen g site (slice_index (set free here (bit_xor whole grain)))
@@ -119,5 +124,5 @@ module _ {g : Grid} {site here grain whole : ℕ} {free : List ℕ} (word : IsWo
   pub put_back : (x : ℕ) → AreAllOpen g (slice_index (set (set free here x) here whole))
   put_back x = set_each 0 (λ k w. (p : ℕ) → p < 64 → bit w p ≡ on_tiles g (λ j. 1) k p) (set free here x) here whole
       (omega (arith, length-set free here x, word.within))
-      (λ p low. ap (λ w. bit w p) word.read ∙ word.all here p low)
+      (λ p low. ap (λ w. bit w p) is_whole ∙ word.all here p low)
       (λ k ne p low. ap (λ w. bit w p) (get_or-set_other free here k x 0 ne) ∙ word.all k p low)

@@ -1,11 +1,14 @@
 -- A site's place on the tiles.
-use Rattle.std.proofs.Common.{ℕ, ◌≡◌, ◌*◌, ◌<◌, ◌∙◌, sym, arith, refl}
+use Rattle.std.proofs.Common.{ℕ, List, length, get_or, ◌≡◌, ◌*◌, ◌<◌, ◌∙◌, sym, arith, refl}
 use Rattle.std.proofs.lemmas.Bool.Decides.{nat_tests}
 use Rattle.sand_model.specs.Grid.{Grid, sites}
 use Rattle.sand_model.specs.Sand.{one_at}
-use Rattle.sand_tiles.specs.Places.{bit}
+use Rattle.sand_tiles.specs.declared.tile.Tile.{Tile}
+use Rattle.sand_tiles.specs.Places.{bit, height}
 use Rattle.sand_fronts.specs.Tiling.{tile_of, place_of, on_tiles}
-use Rattle.sand_fronts.specs.Waves.{only}
+use Rattle.sand_fronts.specs.Drops.{heights_on}
+use Rattle.sand_fronts.specs.Waves.{only, tile_at}
+use Rattle.sand_fronts.proofs.Gained.{tile_read}
 use Rattle.sand_fronts.proofs.OnTiles.{own_place, on_each}
 use Rattle.sand_fronts.proofs.Waves.{only_same}
 
@@ -22,6 +25,11 @@ placed {g} {site} m p place low =
     let own = own_place g site m p low place.site_inside in
     let one = place.one p low in
     grind (arith, nat_tests)
+
+-- the height of a site, read from the list
+pub height_read : (g : Grid) (site : ℕ) (ts : List Tile) {k p h : ℕ} {t : Tile} → k < length ts → t ≡ get_or ts k t
+    → k ≡ tile_of g site → p ≡ place_of g site → h ≡ height t p → h ≡ heights_on g (tile_at ts) site
+height_read g site ts {k} {t = t} inside read tile place is = let whole = tile_read ts k t inside read in cc
 
 -- the set of a site's place, read by site
 pub start_of : (g : Grid) (s here : ℕ) (set' : ℕ) → s < sites g → here ≡ tile_of g s

@@ -1,4 +1,4 @@
-use Rattle.std.proofs.Common.{ltb, eqb, ◌&&◌, ◌≡◌, ◌∙◌, refl, ap, arith}
+use Rattle.std.proofs.Common.{◌≡◌, ◌∙◌, refl, ap, arith}
 use Rattle.sand_model.specs.IndexLists.{ListView}
 use Rattle.sand_tiles.proofs.Bits.{bit_le}
 use Rattle.sand_fronts.specs.Waves.{tile_at}
@@ -7,7 +7,7 @@ use Rattle.sand_fronts.specs.Boards.{tiles_of, counts_of, marks_of}
 use Rattle.sand_fronts.proofs.Boards.{tile_inside}
 use Rattle.sand_fronts.proofs.OnTiles.{place_below}
 use Rattle.sand_fronts.proofs.Counted.{marked_none, marked_more}
-use Rattle.sand_fronts.proofs.Gained.{tile_read}
+use Rattle.sand_fronts.proofs.OneSite.{height_read}
 use Rattle.sand_fronts.proofs.ManyWaves.{OneMore, waves_begin, waves_more, waves_end, wave_size, wave_lost, none_lost, few_yet, few_counted, none_grown}
 use Rattle.sand_fronts.proofs.dropping.topple_all.Goals.{After-count_wave-wave, After-height_at}
 use Rattle.sand_fronts.proofs.dropping.topple_all.Goals as goal
@@ -57,35 +57,30 @@ wave c =
 
 pub overflow_add-total : goal.overflow_add-total
 overflow_add-total c =
-    let next = waves_more _ (wave (goal.at.overflow_add-total c).After-count_wave-wave) refl in
+    let next = waves_more (wave (goal.at.overflow_add-total c).After-count_wave-wave) refl in
     omega (arith, (few_yet c.requires.board.beside.sides next.waves).0, c.waves.invariant.size)
 
 pub overflow_add-total-in-waves : goal.overflow_add-total-in-waves
 overflow_add-total-in-waves c =
-    let next = waves_more _ (wave (goal.at.overflow_add-total-in-waves c).After-count_wave-wave) refl in
+    let next = waves_more (wave (goal.at.overflow_add-total-in-waves c).After-count_wave-wave) refl in
     omega (arith, (few_yet c.requires.board.beside.sides next.waves).1, c.waves.invariant.lost)
 
--- whether the site has 4 again
-test : (c : After-height_at) → (ltb 1 c.count_wave-wave.result.size && eqb c.height_at.result 0)
-    ≡ (ltb 1 c.count_wave-wave.result.size
-    && eqb (heights_on c.args.board.now.shape (tiles_of c.count_wave-wave.new.sand) c.args.drop.site) 0)
-test c =
-    let inside = tile_inside c.args.board.now.shape c.args.drop.site c.requires.drop.inside in
-    let tile = tile_read c.count_wave-wave.new.sand.tiles.items c.args.drop.tile c.index.result.now (omega
-    (arith, c.requires.drop.tile, c.count_wave-wave.ensures.counted.tiles_each, c.topple_wave.ensures.sand.len))
-    c.index.ensures in
-    ap (λ x. ltb 1 c.count_wave-wave.result.size && eqb x 0)
-    (cc (c.height_at.ensures, c.requires.drop.tile, c.requires.drop.place))
+height_is : (c : After-height_at) → c.height_at.result
+    ≡ heights_on c.args.board.now.shape (tiles_of c.count_wave-wave.new.sand) c.args.drop.site
+height_is c = height_read c.args.board.now.shape c.args.drop.site _
+    (omega (arith, tile_inside c.args.board.now.shape c.args.drop.site c.requires.drop.inside, c.requires.drop.tile,
+    c.count_wave-wave.ensures.counted.tiles_each, c.topple_wave.ensures.sand.len))
+    c.index.ensures c.requires.drop.tile c.requires.drop.place c.height_at.ensures
 
 pub waves-smaller : goal.waves-smaller
 waves-smaller c =
-    let next = waves_more _ (wave (goal.at.waves-smaller c).After-count_wave-wave) (test c) in
+    let next = waves_more (wave (goal.at.waves-smaller c).After-count_wave-wave) (height_is c) in
     rw c.waves-test.true (omega (arith, next.lighter))
 
 pub waves-preserved : goal.waves-preserved
 waves-preserved c =
     let counted = c.count_wave-wave.ensures.counted in
-    let next = waves_more _ (wave (goal.at.waves-preserved c).After-count_wave-wave) (test c) in
+    let next = waves_more (wave (goal.at.waves-preserved c).After-count_wave-wave) (height_is c) in
     record {
       sand = record {
         len = counted.tiles_each ∙ c.topple_wave.ensures.sand.len;

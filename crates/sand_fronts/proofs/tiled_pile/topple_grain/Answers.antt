@@ -1,7 +1,7 @@
-use Rattle.std.proofs.Common.{length, sym, ◌≡◌, ◌+◌, ◌<◌, ◌∙◌, refl, ap, arith}
+use Rattle.std.proofs.Common.{sym, ◌≡◌, ◌+◌, ◌∙◌, refl, ap, arith}
 use Rattle.std.specs.Prelude.{bit_xor}
 use Rattle.std.proofs.Math.ListN.{set}
-use Rattle.std.proofs.lemmas.List.{length-set, get_or_read}
+use Rattle.std.proofs.lemmas.List.{length-set}
 use Rattle.sand_model.specs.Sand.{one_at}
 use Rattle.sand_model.proofs.Sandpile.{settled_same}
 use Rattle.sand_tiles.specs.declared.tile.Tile.{Tile}
@@ -12,9 +12,9 @@ use Rattle.sand_fronts.specs.Boards.{tiles_of, counts_of, marks_of, grown}
 use Rattle.sand_fronts.proofs.OnTiles.{height_low}
 use Rattle.sand_fronts.proofs.Boards.{board_with, sand_with}
 use Rattle.sand_fronts.proofs.Counted.{marked_none}
-use Rattle.sand_fronts.proofs.Gained.{tile_read}
 use Rattle.sand_fronts.proofs.ManyWaves.{none_grown, none_lost, none_counted}
 use Rattle.sand_fronts.proofs.Marked.{marked_word}
+use Rattle.sand_fronts.proofs.OneSite.{height_read}
 use Rattle.sand_fronts.proofs.OneGrain.{IsWordOf, without, GetsGrain, few_before, grain_added, calm_quiet, calm_settled, due_heights, taken_out, put_back}
 use Rattle.sand_fronts.proofs.tiled_pile.topple_grain.Goals.{After-receive, After-height_at, After-index-whole}
 use Rattle.sand_fronts.proofs.tiled_pile.topple_grain.Goals as goal
@@ -22,47 +22,39 @@ use Rattle.sand_fronts.proofs.tiled_pile.topple_grain.Goals as goal
 -- the word of the site's tile
 word_of : (c : After-index-whole) → IsWordOf c.args.board.now.shape c.args.site c.find-tile.result.0
     c.set_of-grain.result c.index-whole.result.now c.args.board.now.free.items
-word_of c =
-    let within : c.find-tile.result.0 < length c.args.board.now.free.items =
-    omega (arith, c.find-tile.ensures.inside.0, c.requires.pile.board.free_each) in
-    record {
-      place = record {
-        site_inside = c.requires.site;
-        is = c.find-tile.ensures.tile;
-        one = λ p low. c.set_of-grain.ensures p low ∙ ap (λ q. one_at q p) c.find-tile.ensures.place;
-      };
-      within = within;
-      read = get_or_read c.args.board.now.free.items c.find-tile.result.0 c.index-whole.result.now within
-          c.index-whole.ensures 0;
-      all = c.requires.pile.all_open;
-    }
+word_of c = record {
+  place = record {
+    site_inside = c.requires.site;
+    is = c.find-tile.ensures.tile;
+    one = λ p low. c.set_of-grain.ensures p low ∙ ap (λ q. one_at q p) c.find-tile.ensures.place;
+  };
+  within = omega (arith, c.find-tile.ensures.inside.0, c.requires.pile.board.free_each);
+  read = c.index-whole.ensures;
+  all = c.requires.pile.all_open;
+}
 
 -- the tile of the site gets the grain
 gets : (c : After-receive) → GetsGrain c.args.board.now.shape c.args.site c.args.sand.now.tiles.items
     c.find-tile.result.0 c.set_of-grain.result (bit_xor c.index-whole.result.now c.set_of-grain.result)
-    c.receive.new.tile
+    c.index_mut.result.now c.receive.new.tile
 gets c =
-    let inside : c.find-tile.result.0 < length c.args.sand.now.tiles.items =
-    omega (arith, c.find-tile.ensures.inside.0, c.requires.pile.sand.len) in
     let word = word_of (goal.at.After-receive c).After-index-whole in
     record {
       place = word.place;
-      inside = inside;
+      inside = omega (arith, c.find-tile.ensures.inside.0, c.requires.pile.sand.len);
+      read = c.index_mut.ensures.value;
       held = λ p low. (without word p low).1;
-      receives = rw (← tile_read c.args.sand.now.tiles.items c.find-tile.result.0 c.index_mut.result.now inside
-          c.index_mut.ensures.value) c.receive.ensures;
+      receives = c.receive.ensures;
       quiet = c.requires.pile.quiet;
     }
 
 -- the height of the site
 height_is : (c : After-height_at) → c.height_at.result ≡ heights_on c.args.board.now.shape
     (tile_at (set c.args.sand.now.tiles.items c.find-tile.result.0 c.receive.new.tile)) c.args.site
-height_is c =
-    let new = set c.args.sand.now.tiles.items c.find-tile.result.0 c.receive.new.tile in
-    let long = length-set {A = Tile} c.args.sand.now.tiles.items c.find-tile.result.0 c.receive.new.tile in
-    let read = tile_read new c.find-tile.result.0 c.index.result.now
-    (omega (arith, c.find-tile.ensures.inside.0, c.requires.pile.sand.len)) c.index.ensures in
-    cc (c.height_at.ensures, c.find-tile.ensures.tile, c.find-tile.ensures.place)
+height_is c = height_read c.args.board.now.shape c.args.site _
+    (omega (arith, c.find-tile.ensures.inside.0, c.requires.pile.sand.len, length-set {A = Tile}
+    c.args.sand.now.tiles.items c.find-tile.result.0 c.receive.new.tile))
+    c.index.ensures c.find-tile.ensures.tile c.find-tile.ensures.place c.height_at.ensures
 
 pub returns-then-height_at-ne0 : goal.returns-then-height_at-ne0
 returns-then-height_at-ne0 c =
