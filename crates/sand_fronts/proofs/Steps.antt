@@ -87,7 +87,7 @@ visited_wave {g} {site} {free = free} {τ} {t = t} {k} {start} {new} {b} s more 
             (pays (tile_of g j)).at_open (place_of g j) (place_below g j) (free_at from j l ne));
         at_held = omega (arith, flows site from.inside, sums (tile_of g site) (place_of g site),
             (pays (tile_of g site)).modulo (place_of g site) (place_below g site));
-        needed = λ w stable j l. omega (arith, sum j, needed_next from s wave begins first visits w stable j l);
+        needed = λ w stable j l. omega (arith, sum j, needed_next from s wave begins first w stable visits j l);
       },
       sum,
     )

@@ -82,26 +82,24 @@ module _ {g : Grid} {site : ℕ} {h free : ℕ → ℕ} (from : IsStart g site h
   wave_ready {τ} k start s wave begins first =
       let t = toppled g τ in
       let rest : ℕ → ℕ = λ j. 1 - t j in
-      let unused_le : (q : ℕ) → q < 64 → unused (free k) start (τ k).wave q ≤ on_tiles g rest k q = λ q l.
-      on_each g k q (λ (r : (ℕ → ℕ) → ℕ).
-      bit (free k) q ≡ r (λ j. 1 - one_at site j) → bit start q ≡ r (λ j. s * one_at site j)
-      → bit (τ k).wave q ≡ r t → unused (free k) start (τ k).wave q ≤ r rest) l
-      (λ j m o b i. omega (arith, bit_le (free k) q, bit_le start q)) (λ o b i. omega arith)
-      (from.all_open k q l) (begins q l) (wave.inside k q l) in
+      let each : (q : ℕ) → q < 64 → (unused (free k) start (τ k).wave q ≤ on_tiles g rest k q)
+      × (bit start q ≡ 1 → (bit (free k) q ≡ 0) × (bit (τ k).wave q ≡ 0)) = λ q l.
+      on_each g k q (λ (r : (ℕ → ℕ) → ℕ). bit (free k) q ≡ r (λ j. 1 - one_at site j)
+      → bit start q ≡ r (λ j. s * one_at site j) → bit (τ k).wave q ≡ r t
+      → (unused (free k) start (τ k).wave q ≤ r rest) × (bit start q ≡ 1 → (bit (free k) q ≡ 0) × (bit (τ k).wave q ≡ 0))) l
+      (λ j m o b i. (omega (arith, bit_le (free k) q, bit_le start q),
+      λ is. (grind (arith, nat_tests), grind (arith, nat_tests))))
+      (λ o b i. (omega arith, λ is. absurd (omega arith))) (from.all_open k q l) (begins q l) (wave.inside k q l) in
       record {
         low = λ p l is.
             let yes = open_site g site free k p from.all_open l is in
             let at = there_again g k p l yes.0 in
             let j = site_on g k p in
             omega (arith, rw (at.1, at.2) at (wave.at_open j at.0 yes.1), from.low j at.0 yes.1,
-            around_le (unused (free k) start (τ k).wave) (on_tiles g rest k) p l unused_le,
+            around_le (unused (free k) start (τ k).wave) (on_tiles g rest k) p l (λ q m. (each q m).0),
             rw (at.1, at.2) at (around_some g rest j at.0), flow-add g t rest j,
             flow_four_at_most g (λ i. t i + rest i) (λ i m. omega (arith, set_is g τ i)) j at.0);
-        held = λ p l is. on_each g k p (λ (r : (ℕ → ℕ) → ℕ). bit (free k) p ≡ r (λ j. 1 - one_at site j)
-            → bit start p ≡ r (λ j. s * one_at site j) → bit (τ k).wave p ≡ r t
-            → (bit (free k) p ≡ 0) × (bit (τ k).wave p ≡ 0)) l
-            (λ j m o b i. (grind (arith, nat_tests), grind (arith, nat_tests)))
-            (λ o b i. absurd (omega arith)) (from.all_open k p l) (begins p l) (wave.inside k p l);
+        held = λ p l. (each p l).1;
       }
 
   -- only sites topple in a visit
@@ -111,45 +109,41 @@ module _ {g : Grid} {site : ℕ} {h free : ℕ → ℕ} (from : IsStart g site h
   newly {new = new} k s begins visits m p low =
       on_tiles_is g (only k (bit new)) m p low (λ no. grind (arith, nat_tests))
 
-  -- whatever stabilises the pile leaves no 4 in this tile
-  calm : {τ : ℕ → Tile} {away : ℕ → ℕ → ℕ} (k start s : ℕ) (w : ℕ → ℕ) → IsUnderWay g site h τ away
-      → Starts g site s k start → toppled g τ site + s ≤ 1 → Stabilises g h w
-      → Calms (τ k) (free k) start (on_tiles g (λ j. w j - toppled g τ j) k)
-  calm {τ} k start s w wave begins first stable =
-      let t = toppled g τ in
-      let rest : ℕ → ℕ = λ j. w j - t j in
-      let below = wave.needed w stable in
-      record {
-        start_in = λ p low.
-            let more = least_action g h t w site 1 from.inside stable below in
-            let high = from.high in
-            let some : s ≤ w site - t site = grind arith in
-            omega (arith, begins p low, on_tiles_le g (λ j. s * one_at site j) rest k p low
-            (λ j l. let e = cases_eq site j in grind (arith, nat_tests)));
-        at_most_three = λ p low is.
-            let yes = open_site g site free k p from.all_open low is in
-            let at = there_again g k p low yes.0 in
-            let j = site_on g k p in
-            omega (arith, rw (at.1, at.2) at (wave.at_open j at.0 yes.1), stable.at_most_three j at.0, below j at.0,
-            rw (at.1, at.2) at (around_some g rest j at.0), on_site g rest k p yes.0, on_site g t k p yes.0,
-            wave.inside k p low, flow-add g t rest j,
-            flow_same g (λ i. t i + rest i) w (λ i l. omega (arith, below i l)) j at.0);
-      }
+  module _ {τ : ℕ → Tile} {away : ℕ → ℕ → ℕ} {k start : ℕ} (s : ℕ) (wave : IsUnderWay g site h τ away)
+      (begins : Starts g site s k start) (first : toppled g τ site + s ≤ 1) (w : ℕ → ℕ) (stable : Stabilises g h w) where
+    -- whatever stabilises the pile leaves no 4 in this tile
+    calm : Calms (τ k) (free k) start (on_tiles g (λ j. w j - toppled g τ j) k)
+    calm =
+        let t = toppled g τ in
+        let rest : ℕ → ℕ = λ j. w j - t j in
+        let below = wave.needed w stable in
+        record {
+          start_in = λ p low.
+              let more = least_action g h t w site 1 from.inside stable below in
+              let high = from.high in
+              let some : s ≤ w site - t site = grind arith in
+              omega (arith, begins p low, on_tiles_le g (λ j. s * one_at site j) rest k p low
+              (λ j l. let e = cases_eq site j in grind (arith, nat_tests)));
+          at_most_three = λ p low is.
+              let yes = open_site g site free k p from.all_open low is in
+              let at = there_again g k p low yes.0 in
+              let j = site_on g k p in
+              omega (arith, rw (at.1, at.2) at (wave.at_open j at.0 yes.1), stable.at_most_three j at.0, below j at.0,
+              rw (at.1, at.2) at (around_some g rest j at.0), on_site g rest k p yes.0, on_site g t k p yes.0,
+              wave.inside k p low, flow-add g t rest j,
+              flow_same g (λ i. t i + rest i) w (λ i l. omega (arith, below i l)) j at.0);
+        }
 
-  -- whatever stabilises the pile topples the sites that topple in a visit
-  pub needed_next : {τ : ℕ → Tile} {away : ℕ → ℕ → ℕ} {t : Tile} {k start new : ℕ} (s : ℕ) → IsUnderWay g site h τ away
-      → Starts g site s k start → toppled g τ site + s ≤ 1
-      → Visits (τ k) t (free k) start new → (w : ℕ → ℕ)
-      → Stabilises g h w → (j : ℕ) → j < sites g
-      → toppled g τ j + at_site g (only k (bit new)) j ≤ w j
-  unfolding only
-  needed_next {τ} {k = k} {start = start} s wave begins first visits w stable j l =
-      let rest : ℕ → ℕ = λ i. w i - toppled g τ i in
-      let least = visits.least (on_tiles g rest k) (calm k start s w wave begins first stable) (place_of g j)
-      (place_below g j) in
-      let value = at_on g rest j l in
-      let below = wave.needed w stable j l in
-      grind (arith, nat_tests)
+    -- and topples the sites that topple in a visit
+    pub needed_next : {u : Tile} {new : ℕ} → Visits (τ k) u (free k) start new → (j : ℕ) → j < sites g
+        → toppled g τ j + at_site g (only k (bit new)) j ≤ w j
+    unfolding only
+    needed_next visits j l =
+        let rest : ℕ → ℕ = λ i. w i - toppled g τ i in
+        let least = visits.least (on_tiles g rest k) calm (place_of g j) (place_below g j) in
+        let value = at_on g rest j l in
+        let below = wave.needed w stable j l in
+        grind (arith, nat_tests)
 
   -- the grains under way arrive
   pub handed_over : {τ σ : ℕ → Tile} {away : ℕ → ℕ → ℕ} → IsUnderWay g site h τ away → Gains free τ σ away
