@@ -114,20 +114,20 @@ module _ {g : Grid} {site : ℕ} {s : Sand} {c : Counts} {v : TiledView} {h u : 
         let start = λ (j : ℕ). heights_on g (tiles_of s) j + one_at site j in
         let few = sum_below_most (sites g) 4 start
         (λ j l. omega (arith, height_low (tiles_of s (tile_of g j)) (place_of g j), at_most_one (eqb site j))) in
-        let limit = sites_limit g sides in
-        let all = topplings_bound g start y (heights_on g (tiles_of t)) sides (omega arith) has.settled.toppled in
-        let most = on_below g y m p (2 ^ 54) low (λ j l. omega (arith, at_most_sum_below (sites g) y j l)) in
-        omega (arith, at.none m p low, has.counted m p low)
+        let all = topplings_bound g start y (heights_on g (tiles_of t)) sides (omega (arith, sites_limit g sides))
+        has.settled.toppled in
+        omega (arith, at.none m p low, has.counted m p low,
+        on_below g y m p (2 ^ 54) low (λ j l. omega (arith, at_most_sum_below (sites g) y j l)))
 
     -- nothing is counted at a place that is not marked
     pub only_marked : AreToppled g (grown g c d) (marks_of d) → (m p : ℕ) → p < 64 → bit (marks_of d m) p ≡ 0
         → counted (counts_of d m) p ≡ 0
     only_marked marked m p low out =
         let y = grown g c d in
+        let none = at.none m p low in
         on_each g m p (λ (r : (ℕ → ℕ) → ℕ). counted (counts_of d m) p ≡ counted (counts_of c m) p + r y
         → bit (marks_of d m) p ≡ r (λ j. one_if (ltb 0 (y j))) → counted (counts_of d m) p ≡ 0) low
-        (λ j l now is. let none = at.none m p low in grind (arith, nat_tests))
-        (λ now is. let none = at.none m p low in omega arith) (has.counted m p low) (marked m p low)
+        (λ j l now is. grind (arith, nat_tests)) (λ now is. omega arith) (has.counted m p low) (marked m p low)
 
     -- what has toppled is written into the odometer, and what has moved into the heights
     pub topples_into : {e : Counts} {l w : List ℕ} {i : Grid} {a : Avalanche}

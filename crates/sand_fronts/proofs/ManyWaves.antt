@@ -20,13 +20,12 @@ use Rattle.sand_fronts.specs.Tiling.{tiles, tile_of, place_of, on_tiles}
 use Rattle.sand_fronts.specs.TileLists.{IsClear}
 use Rattle.sand_fronts.specs.declared.counts.Counts.{Counts}
 use Rattle.sand_fronts.specs.Waves.{tile_at, toppled, IsWave, IsWholeWave, AreAtRest, heights_before}
-use Rattle.sand_fronts.specs.Counting.{in_wave, over_wave}
+use Rattle.sand_fronts.specs.Counting.{over_wave}
 use Rattle.sand_fronts.specs.Boards.{counts_of, AreCounted}
 use Rattle.sand_fronts.specs.Drops.{heights_on, grown_on, AreOutside, AreQuiet}
 use Rattle.sand_fronts.proofs.OnTiles.{place_below, on_sum, on_below, on_each, height_low}
 use Rattle.sand_fronts.proofs.Ends.{wave_balance, wave_advances, four_again, HasPassed, Leaves}
 use Rattle.sand_fronts.proofs.Sums.{sum_on_tiles, sum_below_most, sum_below_none}
-use Rattle.sand_fronts.proofs.Marked.{area_is}
 
 -- the heights between two waves: if the held site may topple again, it has 4 more than in the planes
 abbrev pub heights_now : Grid → ℕ → Bool → (ℕ → Tile) → ℕ → ℕ
@@ -123,10 +122,6 @@ advances_on first second = record {
   weight_pays = omega (arith, first.weight_pays, second.weight_pays);
   grains_fall = omega (arith, first.grains_fall, second.grains_fall);
 }
-
-pub wave_size : {g : Grid} {site : ℕ} {h : ℕ → ℕ} {τ : ℕ → Tile} → IsWave g site h τ
-    → in_wave (tiles g) τ ≡ topplings g (toppled g τ)
-wave_size {g} {τ = τ} wave = area_is g (toppled g τ) (λ k. (τ k).wave) wave.inside
 
 pub wave_lost : {g : Grid} {site : ℕ} {h : ℕ → ℕ} (ν : ℕ → Tile) {τ : ℕ → Tile} → AreOutside g ν → IsWave g site h τ
     → over_wave (tiles g) ν τ ≡ lost g (toppled g τ)

@@ -33,12 +33,10 @@ gained g k new b j inside ik beside fits blank =
     let m = tile_of g j in
     let p = place_of g j in
     let im = inner g j inside in
-    let all = flow_on_tiles g (only k (bit new)) j blank inside in
-    let n = north_rim g (bit new) k m p (omega arith) in
-    let s = south_rim g (bit new) k m p (omega arith) in
-    let e = east_rim g (bit new) k m p im ik in
-    let w = west_rim g (bit new) k m p im ik in
-    rw (beside.north, beside.south, beside.west, beside.east, beside.west_shift, beside.east_shift) (omega arith)
+    rw (beside.north, beside.south, beside.west, beside.east, beside.west_shift, beside.east_shift)
+    (omega (arith, flow_on_tiles g (only k (bit new)) j blank inside,
+    north_rim g (bit new) k m p (omega arith), south_rim g (bit new) k m p (omega arith),
+    east_rim g (bit new) k m p im ik, west_rim g (bit new) k m p im ik))
 
 -- what a tile has before and after the places of the set `new` topple
 record Pays (t v : Tile) (free : ℕ) (new : ℕ → ℕ) : Type 0 where

@@ -8,7 +8,8 @@ use Rattle.sand_fronts.proofs.Boards.{tile_inside}
 use Rattle.sand_fronts.proofs.OnTiles.{place_below}
 use Rattle.sand_fronts.proofs.Counted.{marked_none, marked_more}
 use Rattle.sand_fronts.proofs.OneSite.{height_read}
-use Rattle.sand_fronts.proofs.ManyWaves.{OneMore, waves_begin, waves_more, waves_end, wave_size, wave_lost, none_lost, few_yet, few_counted, none_grown}
+use Rattle.sand_fronts.proofs.Marked.{area_is}
+use Rattle.sand_fronts.proofs.ManyWaves.{OneMore, waves_begin, waves_more, waves_end, wave_lost, none_lost, few_yet, few_counted, none_grown}
 use Rattle.sand_fronts.proofs.dropping.topple_all.Goals.{After-count_wave-wave, After-height_at}
 use Rattle.sand_fronts.proofs.dropping.topple_all.Goals as goal
 
@@ -50,7 +51,7 @@ wave c =
       whole = whole;
       counts = c.count_wave-wave.ensures.counted;
       clear = c.count_wave-wave.ensures.clear;
-      size_is = c.count_wave-wave.ensures.size ∙ wave_size whole.wave;
+      size_is = c.count_wave-wave.ensures.size ∙ area_is c.args.board.now.shape _ _ whole.wave.inside;
       gone_is = c.count_wave-wave.ensures.lost
           ∙ wave_lost (tile_at c.args.board.now.outside.items) c.requires.board.outside whole.wave;
     }
