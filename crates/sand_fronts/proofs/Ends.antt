@@ -52,12 +52,9 @@ module _ {g : Grid} {site : ℕ} {ρ τ : ℕ → Tile} (past : HasPassed g site
   pub wave_balance : {k : ℕ → ℕ} → Leaves g site (heights_before g site ρ) τ k
       → (j : ℕ) → j < sites g → k j + 4 * toppled g τ j ≡ heights_before g site ρ j + flow g (toppled g τ) j
   wave_balance {k} leaves j l =
-      let started = past.whole.started in
-      let others = leaves.others j l in
-      let at_open = past.whole.wave.at_open j l in
-      let none = past.whole.none_due (tile_of g j) (place_of g j) (place_below g j) in
       let either = cases_eq j site in
-      grind arith
+      grind (arith, past.whole.started, leaves.others j l, past.whole.wave.at_open j l,
+      past.whole.none_due (tile_of g j) (place_of g j) (place_below g j))
 
   -- the wave was a legal sequence of topplings
   pub wave_advances : {k : ℕ → ℕ} (u v : ℕ → ℕ) → Leaves g site (heights_before g site ρ) τ k
@@ -97,18 +94,13 @@ module _ {g : Grid} {site : ℕ} {ρ τ : ℕ → Tile} (past : HasPassed g site
       let ones = flow_ones g site in
       let alone : flow g t site ≡ 0 → Stabilises g (heights_before g site ρ) (one_at site) = λ none. record {
         at_most_three = λ j l.
-            let started = past.whole.started in
-            let at_open = past.whole.wave.at_open j l in
-            let none_due = past.whole.none_due (tile_of g j) (place_of g j) (place_below g j) in
-            let less = flow_le g (one_at site) t (λ m x. one_at_le t site m (omega arith)) j l in
-            let turned = flow-one_at g site j inside l in
+            let less = flow_le g (one_at site) t (λ m x. one_at_le t site m (omega (arith, past.whole.started))) j l in
             let few = λ (one : 1 ≤ t j). flow_le g (λ m. one_at m j) t
-            (λ m x. let c = one_at_comm m j in let o = one_at_le t j m one in omega arith) site inside in
-            let before = height_low (ρ (tile_of g j)) (place_of g j) in
-            let three = height_low (τ (tile_of g j)) (place_of g j) in
-            let zero' = past.empty in
+            (λ m x. omega (arith, one_at_comm m j, one_at_le t j m one)) site inside in
             let either = cases_eq j site in
-            grind (arith, nat_tests);
+            grind (arith, nat_tests, past.whole.started, past.empty, past.whole.wave.at_open j l,
+            past.whole.none_due (tile_of g j) (place_of g j) (place_below g j), flow-one_at g site j inside l,
+            height_low (ρ (tile_of g j)) (place_of g j), height_low (τ (tile_of g j)) (place_of g j));
       } in
       let nonzero : flow g t site ≢ 0 = λ none. omega
       (arith, past.whole.wave.needed (one_at site) (alone none) i li, one_at_other site i (λ e. ni (sym e))) in

@@ -46,10 +46,8 @@ alone_rests {g} {site} {ρ} {τ} past alone back =
     }) in
     let light = weight_after g h t k (record { balance = balance }) in
     let heavy = sum_below_le (sites g) (λ i. h i * grain_weight g i) (λ i. k i * grain_weight g i) (λ j l.
-    let none = alone j l in
-    let started = past.whole.started in
     let either = cases_eq j site in
-    let more : h j ≤ k j = grind (arith, nat_tests) in
+    let more : h j ≤ k j = grind (arith, nat_tests, alone j l, past.whole.started) in
     mul-le-mul_right (grain_weight g j) more) in
     omega (arith, past.whole.started, at_most_sum_below (sites g) t site past.inside)
 

@@ -11,7 +11,7 @@ use Rattle.sand_model.proofs.Neighbours.{missing_is}
 use Rattle.sand_tiles.specs.declared.tile.Tile.{Tile}
 use Rattle.sand_tiles.specs.Places.{had}
 use Rattle.sand_tiles.specs.declared.counting.Recent.{Recent}
-use Rattle.sand_tiles.specs.Counts.{Count, count_of, times, counted, IsCount, no_recent}
+use Rattle.sand_tiles.specs.Counts.{Count, count_of, counted, IsCount, no_recent}
 use Rattle.sand_tiles.proofs.Bits.{bit_none}
 use Rattle.sand_fronts.specs.declared.sand.Sand.{Sand}
 use Rattle.sand_fronts.specs.declared.counts.Counts.{Counts}
@@ -31,16 +31,14 @@ none_recent cs n m all = entry_each no_recent (λ k r. r ≡ no_recent) cs n
     ∙ get_or-replicate {A = Recent} n k no_recent no_recent less)
     (λ k past. refl) m
 
-pub counts_sound : (cs : List Recent) (ss : List (List ℕ)) (n m : ℕ) → cs ≡ replicate n no_recent
-    → IsCount (count_at cs ss m)
-counts_sound cs ss n m all = subst (λ r. IsCount (count_of r (get_or ss m []))) (sym (none_recent cs n m all))
-    (record { bound = omega arith; each = λ p low. let z = bit_none p in omega arith })
-
-pub counts_none : (cs : List Recent) (ss : List (List ℕ)) (n m p : ℕ) → cs ≡ replicate n no_recent → ss ≡ []
-    → counted (count_at cs ss m) p ≡ 0
-counts_none cs ss n m p all none = omega (arith, bit_none p,
-    ap (λ (r : Recent). times r.planes p) (none_recent cs n m all),
-    ap (λ (xs : List (List ℕ)). spilled_at xs m p) none)
+-- so nothing is counted
+pub counts_new : (cs : List Recent) (ss : List (List ℕ)) (n m : ℕ) → cs ≡ replicate n no_recent → ss ≡ []
+    → IsCount (count_at cs ss m) × ((p : ℕ) → p < 64 → counted (count_at cs ss m) p ≡ 0)
+counts_new cs ss n m all none = subst
+    (λ r. IsCount (count_of r (get_or ss m [])) × ((p : ℕ) → p < 64 → counted (count_of r (get_or ss m [])) p ≡ 0))
+    (sym (none_recent cs n m all))
+    (record { bound = omega arith; each = λ p low. omega (arith, bit_none p) },
+    λ p low. omega (arith, bit_none p, ap (λ (xs : List (List ℕ)). spilled_at xs m p) none))
 
 -- tiles where each site has had just its height are at rest
 pub new_quiet : (g : Grid) (h : ℕ → ℕ) (τ : ℕ → Tile) → ((j : ℕ) → j < sites g → h j ≤ 3)

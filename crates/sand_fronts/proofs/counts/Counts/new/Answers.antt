@@ -1,10 +1,10 @@
-use Rattle.sand_fronts.proofs.NewPiles.{counts_sound, counts_none}
+use Rattle.sand_fronts.proofs.NewPiles.{counts_new}
 use Rattle.sand_fronts.proofs.counts.Counts.new.Goals as goal
 
 pub returns-clause-sound : goal.returns-clause-sound
-returns-clause-sound c m = counts_sound c.in_ok-each.each.items c.in_ok-spilled.spilled.items c.args.n m
-    (c.in_ok-each.ensures.items_if_clones_equal (λ y e. e))
+returns-clause-sound c m = (counts_new c.in_ok-each.each.items c.in_ok-spilled.spilled.items c.args.n m
+    (c.in_ok-each.ensures.items_if_clones_equal (λ y e. e)) c.in_ok-spilled.ensures.items).0
 
 pub returns-clause-none : goal.returns-clause-none
-returns-clause-none c m p low = counts_none c.in_ok-each.each.items c.in_ok-spilled.spilled.items c.args.n m p
-    (c.in_ok-each.ensures.items_if_clones_equal (λ y e. e)) c.in_ok-spilled.ensures.items
+returns-clause-none c m = (counts_new c.in_ok-each.each.items c.in_ok-spilled.spilled.items c.args.n m
+    (c.in_ok-each.ensures.items_if_clones_equal (λ y e. e)) c.in_ok-spilled.ensures.items).1
