@@ -41,7 +41,8 @@ overflow_add-self-2 c =
 
 pub overflow_add-self-3 : goal.overflow_add-self-3
 overflow_add-self-3 c =
-    omega (arith, (dropped (goal.at.overflow_add-self-3 c).After-drop_at-avalanche).driven.paid.limit)
+    let paid = (dropped (goal.at.overflow_add-self-3 c).After-drop_at-avalanche).driven.paid in
+    omega (arith, paid.paid, paid.limit)
 
 pub overflow_add-self-4 : goal.overflow_add-self-4
 overflow_add-self-4 c = omega (arith, room (goal.at.overflow_add-self-4 c).After-drop_at-avalanche)
