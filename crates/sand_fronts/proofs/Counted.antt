@@ -206,16 +206,13 @@ few_on_places n most f few = sum_below_most n (64 * most) (λ k. sum_below 64 (f
 pub few_in_sets : (n : ℕ) (x : ℕ → ℕ) → in_sets n x ≤ 64 * n
 few_in_sets n x = few_on_places n 1 (λ k. bit (x k)) (λ k. bit_le (x k))
 
-number_le : (t : Tile) (x p : ℕ) → number t p * bit x p ≤ 7
-number_le t x p =
-    let a = height_low t p in
-    let c = bit_le t.due p in
-    let few : number t p ≤ 7 = omega arith in
-    omega (arith, bit_le x p, mul-le-mul_right (bit x p) few)
-
 pub few_over_wave : (n : ℕ) (ν τ : ℕ → Tile) → over_wave n ν τ ≤ 448 * n
-few_over_wave n ν τ =
-    few_on_places n 7 (λ k p. number (ν k) p * bit (τ k).wave p) (λ k. number_le (ν k) (τ k).wave)
+few_over_wave n ν τ = few_on_places n 7 (λ k p. number (ν k) p * bit (τ k).wave p)
+    (λ k p.
+    let a = height_low (ν k) p in
+    let c = bit_le (ν k).due p in
+    let few : number (ν k) p ≤ 7 = omega arith in
+    omega (arith, bit_le (τ k).wave p, mul-le-mul_right (bit (τ k).wave p) few))
 
 -- ---- turn by turn
 

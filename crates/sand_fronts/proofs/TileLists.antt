@@ -1,5 +1,5 @@
 -- Tiles that join a list when places in them become due.
-use Rattle.std.proofs.Common.{ℕ, cond, eqb, not, ◌&&◌, List, [], ◌∷◌, ◌++◌, ◌≡◌, ◌+◌, ◌^◌, ◌<◌, length, ◌∙◌, subst, arith}
+use Rattle.std.proofs.Common.{ℕ, cond, eqb, not, ◌&&◌, List, [], ◌∷◌, ◌++◌, ◌≡◌, ◌+◌, ◌^◌, ◌<◌, length, ◌∙◌, arith}
 use Rattle.std.proofs.Math.ListN.{set}
 use Rattle.std.proofs.lemmas.Bool.Decides.{nat_tests}
 use Rattle.std.proofs.lemmas.Grind.{common_steps}
@@ -9,7 +9,7 @@ use Rattle.sand_tiles.specs.declared.tile.Tile.{Tile}
 use Rattle.sand_fronts.specs.TileLists.{waits, but}
 use Rattle.sand_fronts.specs.Waves.{tile_at}
 use Rattle.sand_fronts.specs.declared.sand.Sand.{Sand}
-use Rattle.sand_fronts.specs.Boards.{tiles_of, Gets}
+use Rattle.sand_fronts.specs.Boards.{Gets}
 
 -- a tile whose places become due joins the list if it did not wait before
 pub joins_one : (ts : List Tile) (k : ℕ) (x t : Tile) (l m : ListView) → k < length ts
@@ -25,7 +25,7 @@ joins_one ts k x t l m inside read fits fits' grows is =
 pub gets_more : {free : ℕ → ℕ} {a b : ℕ} {x y : ℕ → ℕ → ℕ} (z : ℕ → ℕ → ℕ) {s t u : Sand}
     → Gets free a x s t → Gets free b y t u
     → ((m p : ℕ) → p < 64 → x m p + y m p ≡ z m p) → Gets free (a + b) z s u
-gets_more {b = b} z {t = t} {u = u} first second sums =
+gets_more z first second sums =
     record {
       len = second.len ∙ first.len;
       gains = record {
@@ -38,8 +38,7 @@ gets_more {b = b} z {t = t} {u = u} first second sums =
         modulo = λ m p low.
             omega (arith, sums m p low, first.gains.modulo m p low, second.gains.modulo m p low);
       };
-      joins = joins_more first.joins
-          (subst (λ n. Joins n b (waits (tiles_of t)) (waits (tiles_of u)) t.list u.list) first.len second.joins);
+      joins = joins_more first.joins (rw first.len at second.joins);
     }
 
 -- a visited tile without due places waits no more

@@ -132,17 +132,15 @@ pub keep_one : {n kept next : ℕ} {τ : ℕ → Tile} {list : List ℕ} {t : Ti
     → AreKept n (set list kept k) next (put k new τ) × (next ≤ kept + 1)
 keep_one {n} {kept} {next} {τ} {list} {t} k new all inside less read fits is =
     let range : (kept ≤ next) × (next ≤ kept + 1) = grind (arith, nat_tests) in
-    let own = get_or-set_same list kept k 0 less in
-    let old = λ (i : ℕ) (l : i < kept). get_or-set_other list kept i k 0 (λ e. omega arith) in
-    let stays : (m : ℕ) → Keeps list kept m → Keeps (set list kept k) next m =
-    λ m at. (at.0, at.1, omega (arith, at.2), old at.0 at.2 ∙ at.3) in (
+    let stays : (m : ℕ) → Keeps list kept m → Keeps (set list kept k) next m = λ m at.
+    (at.0, at.1, omega (arith, at.2), get_or-set_other list kept at.0 k 0 (λ e. omega (arith, at.2)) ∙ at.3) in (
       record {
         listed = cond_each (λ m x. IsClear x ⊎ Keeps (set list kept k) next m) τ k new
             (⊎_elim
             (λ (clear : IsClear (τ k)).
             let z = no_place t.wave (λ p low. rw read (clear p low)) in
             let first = rw (eq-eqb t.wave 0 (omega arith)) at is in
-            inr (kept, omega arith, omega arith, own))
+            inr (kept, omega arith, omega arith, get_or-set_same list kept k 0 less))
             (λ (at : Keeps list kept k). inr (stays k at))
             (all.listed k))
             (λ m ne. ⊎_elim inl (λ (at : Keeps list kept m). inr (stays m at)) (all.listed m));

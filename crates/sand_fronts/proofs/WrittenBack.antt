@@ -44,9 +44,9 @@ follows_more {g} {h} {k} {l} {u} {v} {w} one two = record {
 -- the places of a tile that are no longer in the rest have been written
 pub record TileWritten (g : Grid) (k : ℕ) (c : Count) (set rest : ℕ) (u v : List ℕ) : Type 0 where
   pub within_set : (p : ℕ) → p < 64 → bit rest p ≤ bit set p
-  pub done : (j : ℕ) → j < sites g → tile_of g j ≡ k → bit rest (place_of g j) ≡ 0
-      → get_or v j 0 ≡ get_or u j 0 + counted c (place_of g j)
-  pub left : (j : ℕ) → j < sites g → tile_of g j ≡ k → bit rest (place_of g j) ≡ 1 → get_or v j 0 ≡ get_or u j 0
+  pub here : (j : ℕ) → j < sites g → tile_of g j ≡ k
+      → (bit rest (place_of g j) ≡ 0 → get_or v j 0 ≡ get_or u j 0 + counted c (place_of g j))
+      × (bit rest (place_of g j) ≡ 1 → get_or v j 0 ≡ get_or u j 0)
   pub others : (j : ℕ) → j < sites g → tile_of g j ≢ k → get_or v j 0 ≡ get_or u j 0
 
 -- what holds of the counts that are cleared, and of all others before, holds of all
@@ -67,22 +67,14 @@ pub tile_more : {g : Grid} {k place set rest next site : ℕ} {c : Count} {u v :
     → TileWritten g k c set next u w
 tile_more {g} {k} {place} {set} {rest} {next} {site} {c} {u} {v} w before there counts = record {
   within_set = λ p low. omega (arith, before.within_set p low, there.taken.each p low);
-  done = λ j l tile out.
-      let same = same_site g site j there.inside l (tile ∙ sym there.tile) in
-      let e = there.taken.each (place_of g j) (place_below g j) in
-      let old = before.done j l tile in
-      let first = before.left j l tile in
-      let more = counts j in
-      let at = there.at_place in
-      grind (arith, nat_tests);
-  left = λ j l tile in'.
+  here = λ j l tile.
       let same = same_site g site j there.inside l (tile ∙ sym there.tile) in
       let e = there.taken.each (place_of g j) (place_below g j) in
       let few = bit_le rest (place_of g j) in
-      let old = before.left j l tile in
+      let old = before.here j l tile in
       let more = counts j in
       let at = there.at_place in
-      grind (arith, nat_tests);
+      (λ out. grind (arith, nat_tests), λ in'. grind (arith, nat_tests));
   others = λ j l ne.
       let old = before.others j l ne in
       let more = counts j in

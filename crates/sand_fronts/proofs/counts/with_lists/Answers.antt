@@ -1,5 +1,4 @@
-use Rattle.std.proofs.Common.{rules, ◌∙◌, ap}
-use Rattle.sand_fronts.specs.Counting.{spilled_at}
+use Rattle.std.proofs.Common.{rules}
 use Rattle.sand_fronts.proofs.Counted.{one_list}
 use Rattle.sand_fronts.proofs.counts.with_lists.Goals as goal
 
@@ -7,6 +6,6 @@ pub loop-preserved : goal.loop-preserved
 loop-preserved c = record {
   made = search rules;
   room = search rules;
-  same = λ m p low. ap (λ ss. spilled_at ss m p) c.push_reserved.ensures.items ∙ one_list c.loop.spilled.items m p low
-      ∙ c.loop.invariant.same m p low;
+  same = λ m p low.
+      rw (c.push_reserved.ensures.items, one_list c.loop.spilled.items m p low) (c.loop.invariant.same m p low);
 }

@@ -14,9 +14,10 @@ pub places-init : goal.places-init
 places-init c = record {
   written = record {
     within_set = λ p low. omega arith;
-    done = λ j l here out.
-        omega (arith, c.requires.no_other (place_of c.args.shape j) (place_below c.args.shape j) out);
-    left = λ j l here in'. refl;
+    here = λ j l tile. (
+      λ out. omega (arith, c.requires.no_other (place_of c.args.shape j) (place_below c.args.shape j) out),
+      λ in'. refl,
+    );
     others = λ j l ne. refl;
   };
   follows = follows_none c.args.shape c.args.heights.now c.args.odometer.now c.requires.low;
@@ -48,7 +49,7 @@ write_site-requires-clause-bound c =
       omega (arith, c.times.ensures),
       omega (
         arith,
-        c.places.invariant.written.left c.site_in-site.result n.inside n.tile at,
+        (c.places.invariant.written.here c.site_in-site.result n.inside n.tile).1 at,
         c.requires.bound.1 c.site_in-site.result n.inside n.tile,
       ),
     )
@@ -67,6 +68,6 @@ pub returns-clause-counted : goal.returns-clause-counted
 returns-clause-counted c =
     let none : c.places.rest ≡ 0 = omega (arith, c.places-test.false) in
     record {
-      there = λ j l tile. c.places.invariant.written.done j l tile (rw none (bit_none (place_of c.args.shape j)));
+      there = λ j l tile. (c.places.invariant.written.here j l tile).0 (rw none (bit_none (place_of c.args.shape j)));
       others = c.places.invariant.written.others;
     }

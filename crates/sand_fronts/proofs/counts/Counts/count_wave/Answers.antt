@@ -52,20 +52,23 @@ loop-position-preserved c =
       lost = omega (arith, c.loop-position.invariant.lost, c.sum_over.ensures.value);
     }
 
-pub returns-clause-clear : goal.returns-clause-clear
-returns-clause-clear c = none_in (λ m. IsClear (tiles_of c.loop-position.sand m)) c.args.sand.now.list.items
-    c.loop-position.position (length c.args.sand.now.list.items) c.loop-position.invariant.listed
-    (omega (arith, c.len-position-end.ensures.value, c.loop-position-test.false))
-
-pub returns-clause-size : goal.returns-clause-size
-returns-clause-size c =
-    let none = over_none (tiles c.args.board.now.shape) (λ i p b. b) (λ k. (tiles_of c.loop-position.sand k).wave)
-    (λ i p. refl) (returns-clause-clear c) in
-    omega (arith, c.loop-position.invariant.size)
-
-pub returns-clause-lost : goal.returns-clause-lost
-returns-clause-lost c =
+pub returns : goal.returns
+returns c =
+    let after = c.loop-position.invariant in
+    let n = tiles c.args.board.now.shape in
+    let τ = tiles_of c.loop-position.sand in
     let ν = tile_at c.args.board.now.outside.items in
-    let none = over_none (tiles c.args.board.now.shape) (λ i p b. number (ν i) p * b)
-    (λ k. (tiles_of c.loop-position.sand k).wave) (λ i p. omega arith) (returns-clause-clear c) in
-    omega (arith, c.loop-position.invariant.lost)
+    let clear = none_in (λ m. IsClear (τ m)) c.args.sand.now.list.items c.loop-position.position
+    (length c.args.sand.now.list.items) after.listed
+    (omega (arith, c.len-position-end.ensures.value, c.loop-position-test.false)) in
+    record {
+      counted = after.counted;
+      clear = clear;
+      list = after.list;
+      size = omega (arith, after.size, over_none n (λ i p b. b) (λ k. (τ k).wave) (λ i p. refl) clear);
+      lost = omega (
+        arith,
+        after.lost,
+        over_none n (λ i p b. number (ν i) p * b) (λ k. (τ k).wave) (λ i p. omega arith) clear,
+      );
+    }
