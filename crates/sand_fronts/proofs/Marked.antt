@@ -38,9 +38,8 @@ marked_word g c d a b m p low marked none counts =
 pub area_is : (g : Grid) (v b : ℕ → ℕ) → ((m p : ℕ) → p < 64 → bit (b m) p ≡ on_tiles g v m p)
     → in_sets (tiles g) b ≡ sum_below (sites g) v
 area_is g v b each =
-    sum_below_same (tiles g) (λ k. sum_below 64 (bit (b k))) (λ k. sum_below 64 (λ p. on_tiles g v k p))
-    (λ k l. sum_below_same 64 (bit (b k)) (λ p. on_tiles g v k p) (λ p m. each k p m))
-    ∙ sum_on_tiles g v
+    sum_below_same (tiles g) (λ k. sum_below 64 (bit (b k))) (λ k. sum_below 64 (on_tiles g v k))
+    (λ k l. sum_below_same 64 (bit (b k)) (on_tiles g v k) (each k)) ∙ sum_on_tiles g v
 
 -- ---- the list
 
@@ -55,10 +54,8 @@ turn_of [] i some = absurd (omega arith)
 turn_of (x ∷ xs) i some = ⊎_elim
     (λ (e : x ≡ i). (0, omega arith, e))
     (λ (ne : x ≡ i → ⊥).
-    let first = occurrences-cons x xs i in
-    let none = one_at_other x i ne in
-    let later = turn_of xs i (omega arith) in
-    (suc later.0, (let l = later.1 in omega arith), later.2))
+    let later = turn_of xs i (omega (arith, occurrences-cons x xs i, one_at_other x i ne)) in
+    (suc later.0, omega (arith, later.1), later.2))
     (cases_eq x i)
 
 pub empty_or_listed : (ws list : List ℕ) → Lists (length ws) (has_mark ws) list

@@ -13,16 +13,12 @@ sum_below_none n f none = sum_below_same n f (λ i. 0) none ∙ sum_below-zero n
 
 pub sum_below_most : (n most : ℕ) (f : ℕ → ℕ) → ((i : ℕ) → i < n → f i ≤ most) → sum_below n f ≤ most * n
 sum_below_most n most f few =
-    let le = sum_below_le n f (λ i. most * 1) (λ i l. let a = few i l in omega arith) in
-    let scaled = sum_below-scale n most (λ i. 1) in
     let ones = ap (λ x. most * x) (sum_below-ones n) in
-    omega arith
+    omega (arith, sum_below_le n f (λ i. most * 1) (λ i l. omega (arith, few i l)), sum_below-scale n most (λ i. 1))
 
 pub flow_none : (g : Grid) (u : ℕ → ℕ) (j : ℕ) → ((i : ℕ) → i < sites g → u i ≡ 0) → j < sites g → flow g u j ≡ 0
 flow_none g u j none l =
-    let same = flow_same g u (λ i. 0 * u i) (λ i m. let z = none i m in omega arith) j l in
-    let scale = flow-scale g 0 u j in
-    omega arith
+    omega (arith, flow_same g u (λ i. 0 * u i) (λ i m. omega (arith, none i m)) j l, flow-scale g 0 u j)
 
 -- v of the site j at its own place, and 0 at each other
 abbrev here : Grid → (ℕ → ℕ) → ℕ → ℕ → ℕ → ℕ

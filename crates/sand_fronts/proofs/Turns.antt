@@ -110,10 +110,8 @@ pub kept_on : {n kept : ℕ} {τ σ : ℕ → Tile} {before after : List ℕ} �
     → ((t : ℕ) → t < kept → get_or after t 0 ≡ get_or before t 0)
     → ((m p : ℕ) → p < 64 → bit (σ m).wave p ≡ bit (τ m).wave p) → AreKept n after kept σ
 kept_on {n} {kept} {τ} {σ} {before} {after} all same each = record {
-  listed = λ m. ⊎_elim
-      (λ (clear : IsClear (τ m)). inl (λ p low. each m p low ∙ clear p low))
-      (λ (at : Keeps before kept m). inr (at.0, at.1, at.2, same at.0 at.2 ∙ at.3))
-      (all.listed m);
+  listed = λ m. ⊎_elim (λ (clear : IsClear (τ m)). inl (λ p low. each m p low ∙ clear p low))
+      (λ (at : Keeps before kept m). inr (at.0, at.1, at.2, same at.0 at.2 ∙ at.3)) (all.listed m);
   on_board = λ t below. omega arith;
 }
 
@@ -141,8 +139,7 @@ keep_one {n} {kept} {next} {τ} {list} {t} k new all inside less read fits is =
             let z = no_place t.wave (λ p low. rw read (clear p low)) in
             let first = rw (eq-eqb t.wave 0 (omega arith)) at is in
             inr (kept, omega arith, omega arith, get_or-set_same list kept k 0 less))
-            (λ (at : Keeps list kept k). inr (stays k at))
-            (all.listed k))
+            (λ (at : Keeps list kept k). inr (stays k at)) (all.listed k))
             (λ m ne. ⊎_elim inl (λ (at : Keeps list kept m). inr (stays m at)) (all.listed m));
         on_board = λ i below. let before = all.on_board i in grind (arith, nat_tests, common_steps);
       },

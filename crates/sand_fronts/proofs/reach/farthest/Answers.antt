@@ -8,6 +8,4 @@ returns c p low =
     omega (arith, c.abs_diff.ensures, c.abs_diff-2.ensures, c.max-across.ensures) in
     let down : abs_diff c.args.from.row (c.args.corner.row + p / 8) ≤ c.max-down.result =
     omega (arith, c.abs_diff-3.ensures, c.abs_diff-4.ensures, c.max-down.ensures) in
-    let wide = c.width.ensures.value in
-    let near = c.shorter.ensures in
     grind arith

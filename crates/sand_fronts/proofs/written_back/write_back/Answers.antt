@@ -1,9 +1,7 @@
-use Rattle.std.proofs.Common.{inl, inr, refl, ℕ, length, ◌≡◌, ◌<◌, ◌≤◌, ◌∙◌, ap, arith, ⊎_elim}
-use Rattle.std.specs.Prelude.{slice_index}
+use Rattle.std.proofs.Common.{inl, inr, refl, ℕ, length, ◌≡◌, ◌<◌, ◌≤◌, ◌∙◌, arith, ⊎_elim}
 use Rattle.sand_tiles.specs.Counts.{counted, IsCount}
 use Rattle.sand_tiles.proofs.Bits.{bit_none}
 use Rattle.sand_fronts.specs.Tiling.{tile_of, place_of}
-use Rattle.sand_fronts.specs.Marking.{MarksView}
 use Rattle.sand_fronts.specs.Boards.{counts_of, marks_of}
 use Rattle.sand_fronts.proofs.OnTiles.{place_below}
 use Rattle.sand_fronts.proofs.Counted.{AreNone, none_in, rest_in}
@@ -44,8 +42,6 @@ loop-position-preserved c =
     let k = c.tile-k.result in
     let is = c.clear.ensures in
     let before = c.loop-position.invariant in
-    let turn_is : k ≡ slice_index list c.loop-position.position = c.tile-k.ensures.value
-    ∙ ap (λ (x : MarksView). slice_index x.tiles c.loop-position.position) before.marks in
     record {
       each = is.counts_each ∙ before.each;
       room = is.room ∙ before.room;
@@ -56,7 +52,7 @@ loop-position-preserved c =
       listed = rest_in (λ m. AreNone (counts_of c.loop-position.counts m))
           (λ m. AreNone (counts_of c.clear.new.self m)) k list c.loop-position.position (length list) before.listed
           (cleared_each (λ m x. AreNone (counts_of c.loop-position.counts m) → AreNone x) is
-          (λ was. is.none) (λ m ne was. was)) is.none turn_is;
+          (λ was. is.none) (λ m ne was. was)) is.none (rw before.marks at c.tile-k.ensures.value);
       added = λ j l.
           let all = before.added j l in
           let there = c.write_tile.ensures.counted.there j l in

@@ -1,10 +1,9 @@
-use Rattle.std.proofs.Common.{ℕ, refl, ap, ◌∙◌, ◌≡◌, ◌*◌, length, get_or, arith}
+use Rattle.std.proofs.Common.{ℕ, refl, ap, ◌≡◌, ◌*◌, length, arith}
 use Rattle.sand_model.specs.Sand.{sum_below}
 use Rattle.sand_tiles.specs.declared.tile.Tile.{Tile}
 use Rattle.sand_tiles.specs.Places.{bit, number}
 use Rattle.sand_tiles.proofs.Bits.{bit_none}
 use Rattle.sand_fronts.specs.Tiling.{tiles}
-use Rattle.sand_model.specs.IndexLists.{ListView}
 use Rattle.sand_fronts.specs.Waves.{tile_at}
 use Rattle.sand_fronts.specs.Boards.{tiles_of}
 use Rattle.sand_fronts.proofs.Counted.{counted_more, few_in_sets, few_over_wave, set_less, over_none, rest_in, none_in}
@@ -32,8 +31,7 @@ loop-position-preserved c =
     let τ = tiles_of c.loop-position.sand in
     let σ = tile_at c.take-set.new.tiles.items in
     let ν = tile_at c.args.board.now.outside.items in
-    let is : k ≡ get_or list position 0 =
-    c.item-k.ensures ∙ ap (λ (l : ListView). get_or l.items position 0) c.loop-position.invariant.list in
+    let is = rw c.loop-position.invariant.list at c.item-k.ensures in
     let take = c.take-set.ensures in
     let within =
     c.requires.on_board position (omega (arith, c.len-position-end.ensures.value, c.loop-position-test.true)) in

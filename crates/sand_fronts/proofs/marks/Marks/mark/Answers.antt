@@ -1,9 +1,9 @@
-use Rattle.std.proofs.Common.{ap, arith, length}
+use Rattle.std.proofs.Common.{arith, length}
 use Rattle.std.proofs.lemmas.Bool.Decides.{nat_tests}
 use Rattle.std.proofs.lemmas.Grind.{common_steps}
 use Rattle.std.proofs.lemmas.Nat.{le_or_l}
 use Rattle.sand_model.proofs.Lists.{lists_length}
-use Rattle.sand_fronts.specs.Marking.{MarksView, has_mark}
+use Rattle.sand_fronts.specs.Marking.{has_mark}
 use Rattle.sand_fronts.proofs.marks.Marks.mark.Goals as goal
 
 pub push_if-requires-clause-room : goal.push_if-requires-clause-room
@@ -16,6 +16,5 @@ push_if-requires-clause-room c = omega (
 
 pub invariant_of-self : goal.invariant_of-self
 invariant_of-self c =
-    let view = ap (λ (v : MarksView). length v.sets) c.self.view_is in
     let grows = le_or_l c.index-before.result.now c.args.set in
     rw c.push_if.ensures (grind (arith, common_steps), grind (arith, nat_tests, common_steps))
