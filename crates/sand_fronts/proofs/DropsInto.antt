@@ -56,9 +56,9 @@ before {g} {site} {s} {c} {v} view counts inside none listed low each few =
       heights_each = long;
       heights = λ j l. ap (λ xs. get_or xs j 0) all ∙ by_site_at g (heights_on g (tiles_of s)) j l;
       low = low;
-      none = λ m p less. omega (arith, few_at_sites g (counts_of c) 0 counts (λ j l.
-          let e = ap (λ (w : TiledView). get_or w.times j 0) view in
-          omega (arith, by_site_at g (counted_on g (counts_of c)) j l, none j)) m p less);
+      none = λ m p less.
+          let sites = few_at_sites g (counts_of c) 0 counts (λ j l. let e = ap (λ (w : TiledView). get_or w.times j 0) view in omega (arith, by_site_at g (counted_on g (counts_of c)) j l, none j)) m p less in
+          omega arith;
       odometer_each = omega arith;
       few = λ j l. few j (omega arith);
     }
@@ -108,6 +108,7 @@ module _ {g : Grid} {site : ℕ} {s : Sand} {c : Counts} {v : TiledView} {h u : 
   -- ---- a grain that topples its site
 
   module _ {t : Sand} {d : Counts} (has : HasSettled g (λ j. heights_on g (tiles_of s) j + one_at site j) t c d) where
+    -- so no count comes near its limit
     pub few_toppled : IsGrid g → (m p : ℕ) → p < 64 → counted (counts_of d m) p < 2 ^ 59
     few_toppled sides m p low =
         let y = grown g c d in
@@ -116,8 +117,8 @@ module _ {g : Grid} {site : ℕ} {s : Sand} {c : Counts} {v : TiledView} {h u : 
         (λ j l. omega (arith, height_low (tiles_of s (tile_of g j)) (place_of g j), at_most_one (eqb site j))) in
         let all = topplings_bound g start y (heights_on g (tiles_of t)) sides (omega (arith, sites_limit g sides))
         has.settled.toppled in
-        omega (arith, at.none m p low, has.counted m p low,
-        on_below g y m p (2 ^ 54) low (λ j l. omega (arith, at_most_sum_below (sites g) y j l)))
+        let below = on_below g y m p (2 ^ 54) low (λ j l. omega (arith, at_most_sum_below (sites g) y j l)) in
+        omega (arith, at.none m p low, has.counted m p low)
 
     -- nothing is counted at a place that is not marked
     pub only_marked : AreToppled g (grown g c d) (marks_of d) → (m p : ℕ) → p < 64 → bit (marks_of d m) p ≡ 0
@@ -136,10 +137,11 @@ module _ {g : Grid} {site : ℕ} {s : Sand} {c : Counts} {v : TiledView} {h u : 
     topples_into {e} {l} {w} {i} {a} follows written shape avalanche =
         let rises : (j : ℕ) → j < sites g → grown g c d j ≡ risen u w j =
         λ j less. omega (arith, written.added j less, at.none (tile_of g j) (place_of g j) (place_below g j)) in
-        let is : (j : ℕ) → j < sites g → get_or l j 0 ≡ heights_on g (tiles_of t) j = λ j less. omega (arith,
-        at.heights j less, height_low (tiles_of t (tile_of g j)) (place_of g j), follows.gains j less,
-        with_grain (λ n. n % 4) site h at.within (λ i. omega (arith, at.low i)) j,
-        flow_same g (grown g c d) (risen u w) rises j less, has.settled.toppled.balance j less) in
+        let is : (j : ℕ) → j < sites g → get_or l j 0 ≡ heights_on g (tiles_of t) j = λ j less.
+        let low' = height_low (tiles_of t (tile_of g j)) (place_of g j) in
+        let grain = with_grain (λ n. n % 4) site h at.within (λ i. omega (arith, at.low i)) j in
+        let same = flow_same g (grown g c d) (risen u w) rises j less in
+        omega (arith, at.heights j less, follows.gains j less, has.settled.toppled.balance j less) in
         subst (λ k. DropsInto k site (tiled_view i t e) h l u w a) at.grid
         (subst (λ k. DropsInto g site (tiled_view k t e) h l u w a) (sym shape) (record {
           grid = refl;

@@ -26,10 +26,11 @@ first_wave g site τ rest inside =
     λ j l. flow_none g (toppled g τ) j (λ i m. none i) l in
     record {
       inside = λ m p low. on_tiles_is g (λ k q. bit (τ k).wave q) m p low (λ no. rest.quiet.clear m p low);
-      at_open = λ j l ne. omega (arith, one_at_other site j (λ e. ne (sym e)), no_flow j l, none j,
-          rest.quiet.none_due (tile_of g j) (place_of g j) (place_below g j));
-      at_held = omega (arith, one_at_same site, no_flow site inside,
-          height_low (τ (tile_of g site)) (place_of g site));
+      at_open = λ j l ne.
+          let due = rest.quiet.none_due (tile_of g j) (place_of g j) (place_below g j) in
+          omega (arith, one_at_other site j (λ e. ne (sym e)), no_flow j l, none j);
+      at_held = omega
+          (arith, one_at_same site, no_flow site inside, height_low (τ (tile_of g site)) (place_of g site));
       needed = λ w stable j l. omega (arith, none j);
     }
 
@@ -53,8 +54,8 @@ module _ {g : Grid} {site : ℕ} {ρ τ : ℕ → Tile} (past : HasPassed g site
       → (j : ℕ) → j < sites g → k j + 4 * toppled g τ j ≡ heights_before g site ρ j + flow g (toppled g τ) j
   wave_balance {k} leaves j l =
       let either = cases_eq j site in
-      grind (arith, past.whole.started, leaves.others j l, past.whole.wave.at_open j l,
-      past.whole.none_due (tile_of g j) (place_of g j) (place_below g j))
+      let due = past.whole.none_due (tile_of g j) (place_of g j) (place_below g j) in
+      grind (arith, past.whole.started, leaves.others j l, past.whole.wave.at_open j l)
 
   -- the wave was a legal sequence of topplings
   pub wave_advances : {k : ℕ → ℕ} (u v : ℕ → ℕ) → Leaves g site (heights_before g site ρ) τ k
@@ -68,14 +69,14 @@ module _ {g : Grid} {site : ℕ} {ρ τ : ℕ → Tile} (past : HasPassed g site
       record {
         underway = λ s before. record {
           toppled = record {
-            balance = λ j l. omega (arith, balance j l,
-                flow_same g v (λ i. u i + t i) sums j l ∙ flow-add g u t j);
+            balance = λ j l. omega (arith, balance j l, flow_same g v (λ i. u i + t i) sums j l ∙ flow-add g u t j);
           };
           bounded = λ w stable j l.
               let below = before.bounded w stable in
               let rest : Stabilises g h (λ i. w i - u i) = record {
-                at_most_three = λ i m. omega (arith, below i m, flow-add g u (λ n. w n - u n) i,
-                    flow_same g (λ n. u n + (w n - u n)) w (λ n x. omega arith) i m);
+                at_most_three = λ i m.
+                    let same = flow_same g (λ n. u n + (w n - u n)) w (λ n x. omega arith) i m in
+                    omega (arith, below i m, flow-add g u (λ n. w n - u n) i);
               } in
               omega (arith, past.whole.wave.needed (λ i. w i - u i) rest j l);
         };
@@ -98,9 +99,10 @@ module _ {g : Grid} {site : ℕ} {ρ τ : ℕ → Tile} (past : HasPassed g site
             let few = λ (one : 1 ≤ t j). flow_le g (λ m. one_at m j) t
             (λ m x. omega (arith, one_at_comm m j, one_at_le t j m one)) site inside in
             let either = cases_eq j site in
-            grind (arith, nat_tests, past.whole.started, past.empty, past.whole.wave.at_open j l,
-            past.whole.none_due (tile_of g j) (place_of g j) (place_below g j), flow-one_at g site j inside l,
-            height_low (ρ (tile_of g j)) (place_of g j), height_low (τ (tile_of g j)) (place_of g j));
+            let due = past.whole.none_due (tile_of g j) (place_of g j) (place_below g j) in
+            let turned = flow-one_at g site j inside l in let low = height_low (ρ (tile_of g j)) (place_of g j) in
+            let low' = height_low (τ (tile_of g j)) (place_of g j) in
+            grind (arith, nat_tests, past.whole.started, past.empty, past.whole.wave.at_open j l);
       } in
       let nonzero : flow g t site ≢ 0 = λ none. omega
       (arith, past.whole.wave.needed (one_at site) (alone none) i li, one_at_other site i (λ e. ni (sym e))) in

@@ -178,8 +178,8 @@ waves_more {g} {site} {τ} {σ} {us} {vs} {c} {d} {e} {size} {height = height} w
     } in
     let sums : (j : ℕ) → j < sites g → v j ≡ u j + t j = λ j l.
     let low = place_below g j in
-    omega (arith, before.counts (tile_of g j) (place_of g j) low, counts.each (tile_of g j) (place_of g j) low,
-    wave.clear (tile_of g j) (place_of g j) low) in
+    let counts' = before.counts (tile_of g j) (place_of g j) low in
+    omega (arith, counts.each (tile_of g j) (place_of g j) low, wave.clear (tile_of g j) (place_of g j) low) in
     let next = wave_advances past u v leaves sums in
     let all = sum_below_same (sites g) v (λ j. u j + t j) sums ∙ sum_below-add (sites g) u t in
     let part = at_most_sum_below (sites g) t site wave.inside in
@@ -191,8 +191,9 @@ waves_more {g} {site} {τ} {σ} {us} {vs} {c} {d} {e} {size} {height = height} w
         };
         empty = λ is. grind (arith, nat_tests);
         advances = advances_on before.advances next;
-        counts = λ m p l. omega (arith, before.counts m p l, counts.each m p l, wave.clear m p l,
-            whole.wave.inside m p l, on_sum g u t v m p l sums);
+        counts = λ m p l.
+            let sum = on_sum g u t v m p l sums in
+            omega (arith, before.counts m p l, counts.each m p l, wave.clear m p l, whole.wave.inside m p l);
       };
       all_topplings = omega (arith, wave.size_is);
       all_lost = lost_more g u t v sums ∙ ap (λ n. lost g u + n) (sym wave.gone_is);
@@ -204,8 +205,9 @@ unfolding missing
 missing_le g j = omega arith
 
 lost_few : (g : Grid) (u : ℕ → ℕ) → lost g u ≤ 4 * topplings g u
-lost_few g u = omega (arith, sum_below-scale (sites g) 4 u,
-    sum_below_le (sites g) (λ j. missing g j * u j) (λ j. 4 * u j) (λ j l. mul-le-mul_right (u j) (missing_le g j)))
+lost_few g u =
+    let le' = sum_below_le (sites g) (λ j. missing g j * u j) (λ j. 4 * u j) (λ j l. mul-le-mul_right (u j) (missing_le g j)) in
+    omega (arith, sum_below-scale (sites g) 4 u)
 
 pub none_lost : (g : Grid) (c : ℕ → Count) → 0 ≡ lost g (grown_on g c c)
 none_lost g c = omega (arith, none_grown g c, lost_few g (grown_on g c c))
@@ -228,8 +230,8 @@ pub few_counted : {g : Grid} {site : ℕ} {more : Bool} {τ σ : ℕ → Tile} {
 few_counted {g} {c = c} {d = d} m p sides waves low few =
     let u = grown_on g c d in
     let all = (few_yet sides waves).0 in
-    omega (arith, waves.counts m p low,
-    on_below g u m p (2 ^ 32) low (λ j l. omega (arith, at_most_sum_below (sites g) u j l)))
+    let below = on_below g u m p (2 ^ 32) low (λ j l. omega (arith, at_most_sum_below (sites g) u j l)) in
+    omega (arith, waves.counts m p low)
 
 pub waves_end : {g : Grid} {site : ℕ} {τ σ : ℕ → Tile} {c d : ℕ → Count} → AreWaves g site false τ σ c d
     → IsSettled g (heights_before g site τ) (grown_on g c d) (heights_on g σ)

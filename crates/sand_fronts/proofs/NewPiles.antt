@@ -36,9 +36,10 @@ pub counts_new : (cs : List Recent) (ss : List (List ℕ)) (n m : ℕ) → cs �
     → IsCount (count_at cs ss m) × ((p : ℕ) → p < 64 → counted (count_at cs ss m) p ≡ 0)
 counts_new cs ss n m all none = subst
     (λ r. IsCount (count_of r (get_or ss m [])) × ((p : ℕ) → p < 64 → counted (count_of r (get_or ss m [])) p ≡ 0))
-    (sym (none_recent cs n m all))
-    (record { bound = omega arith; each = λ p low. omega (arith, bit_none p) },
-    λ p low. omega (arith, bit_none p, ap (λ (xs : List (List ℕ)). spilled_at xs m p) none))
+    (sym (none_recent cs n m all)) (
+      record { bound = omega arith; each = λ p low. omega (arith, bit_none p) },
+      λ p low. omega (arith, bit_none p, ap (λ (xs : List (List ℕ)). spilled_at xs m p) none),
+    )
 
 -- tiles where each site has had just its height are at rest
 pub new_quiet : (g : Grid) (h : ℕ → ℕ) (τ : ℕ → Tile) → ((j : ℕ) → j < sites g → h j ≤ 3)
@@ -85,16 +86,17 @@ few_missing g j n is = omega arith
 
 pub counts_no_site : (g : Grid) (c : ℕ → Count) → ((m p : ℕ) → p < 64 → counted (c m) p ≡ 0) → (m p : ℕ) → p < 64
     → counted (c m) p ≡ on_tiles g (counted_on g c) m p
-counts_no_site g c none m p low = omega (arith, none m p low, on_below g (counted_on g c) m p 0 low
-    (λ j l. omega (arith, none (tile_of g j) (place_of g j) (place_below g j))))
+counts_no_site g c none m p low =
+    let below = on_below g (counted_on g c) m p 0 low (λ j l. omega (arith, none (tile_of g j) (place_of g j) (place_below g j))) in
+    omega (arith, none m p low)
 
 pub counts_sites : (g : Grid) (c d : ℕ → Count)
     → ((m p : ℕ) → p < 64 → counted (c m) p ≡ on_tiles g (counted_on g c) m p)
     → ((m p : ℕ) → p < 64 → counted (d m) p ≡ counted (c m) p + on_tiles g (grown_on g c d) m p)
     → (m p : ℕ) → p < 64 → counted (d m) p ≡ on_tiles g (counted_on g d) m p
-counts_sites g c d before grown m p low = omega (arith, before m p low, grown m p low,
-    on_sum g (counted_on g c) (grown_on g c d) (counted_on g d) m p low
-    (λ j l. omega (arith, grown (tile_of g j) (place_of g j) (place_below g j))))
+counts_sites g c d before grown m p low =
+    let sum = on_sum g (counted_on g c) (grown_on g c d) (counted_on g d) m p low (λ j l. omega (arith, grown (tile_of g j) (place_of g j) (place_below g j))) in
+    omega (arith, before m p low, grown m p low)
 
 pub few_at_sites : (g : Grid) (c : ℕ → Count) (most : ℕ)
     → ((m p : ℕ) → p < 64 → counted (c m) p ≡ on_tiles g (counted_on g c) m p)

@@ -95,8 +95,9 @@ dropped {g} {i} {site} s {t} {c} {d} {v} {a} view shape has is =
 pub few_now : (g : Grid) (s : Sand) (c : Counts) → CountsSites g c
     → ((j : ℕ) → j < sites g → slice_index (tiled_view g s c).times j < 2 ^ 60) → (m p : ℕ) → p < 64
     → counted (counts_of c m) p < 2 ^ 60
-few_now g s c counts few m p low = omega (arith, few_at_sites g (counts_of c) (2 ^ 60 - 1) counts
-    (λ j l. omega (arith, by_site_at g (counted_on g (counts_of c)) j l, few j l)) m p low)
+few_now g s c counts few m p low =
+    let sites = few_at_sites g (counts_of c) (2 ^ 60 - 1) counts (λ j l. omega (arith, by_site_at g (counted_on g (counts_of c)) j l, few j l)) m p low in
+    omega arith
 
 -- ---- reading a site
 
@@ -108,5 +109,7 @@ pub site_seen : (g : Grid) (s : Sand) (c : Counts) {v : TiledView} {k p : ℕ} (
 site_seen g s c {k = k} {p} x y view inside tile place = subst (λ (v : TiledView).
     y * v.grid.width + x < sites v.grid → (height (tiles_of s k) p ≡ slice_index v.heights (y * v.grid.width + x))
     × (counted (counts_of c k) p ≡ slice_index v.times (y * v.grid.width + x))) view
-    (λ l. rw (tile, place) (sym (by_site_at g (heights_on g (tiles_of s)) (y * g.width + x) l),
-    sym (by_site_at g (counted_on g (counts_of c)) (y * g.width + x) l))) inside
+    (λ l. rw (tile, place) (
+      sym (by_site_at g (heights_on g (tiles_of s)) (y * g.width + x) l),
+      sym (by_site_at g (counted_on g (counts_of c)) (y * g.width + x) l),
+    )) inside

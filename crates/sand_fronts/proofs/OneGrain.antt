@@ -47,8 +47,8 @@ module _ {g : Grid} {site : ℕ} {ts : List Tile} {here grain free : ℕ} {was t
       → heights_on g (tile_at (set ts here t)) j ≡ (heights_on g (tile_at ts) j + one_at site j) % 4
   grain_heights j l =
       let low = place_below g j in
-      omega (arith, gains.modulo (tile_of g j) (place_of g j) low, placed (tile_of g j) (place_of g j) gets.place low,
-      at_on g (one_at site) j l)
+      let placed' = placed (tile_of g j) (place_of g j) gets.place low in
+      omega (arith, gains.modulo (tile_of g j) (place_of g j) low, at_on g (one_at site) j l)
 
   -- if the site has fewer than 3, the grain is added, and no other height changes
   pub grain_added : heights_on g (tile_at ts) site < 3 → (j : ℕ) → j < sites g
@@ -66,16 +66,18 @@ module _ {g : Grid} {site : ℕ} {ts : List Tile} {here grain free : ℕ} {was t
         let none = gets.quiet.none_due m p low in
         let held = gets.held p low in
         let either = cases_eq m here in
-        grind (arith, bit_le free p, height_low (tile_at ts m) p, gains.wave m p low, gains.modulo m p low,
-        gains.due_free (λ k q l. omega (arith, gets.quiet.none_due k q l)) m p low, gains.each m p low,
-        only_same here m (bit grain) p, only_other here m (bit grain) p);
+        let low' = height_low (tile_at ts m) p in
+        let free' = gains.due_free (λ k q l. omega (arith, gets.quiet.none_due k q l)) m p low in
+        let same = only_same here m (bit grain) p in let other = only_other here m (bit grain) p in
+        grind (arith, bit_le free p, gains.wave m p low, gains.modulo m p low, gains.each m p low);
   }
 
   -- ---- if the site has no 4, the pile is settled
 
   pub few_before : heights_on g (tile_at (set ts here t)) site ≢ 0 → heights_on g (tile_at ts) site < 3
-  few_before some = grind (arith, nat_tests, grain_heights site gets.place.site_inside,
-      height_low (tile_at ts (tile_of g site)) (place_of g site))
+  few_before some =
+      let low = height_low (tile_at ts (tile_of g site)) (place_of g site) in
+      grind (arith, nat_tests, grain_heights site gets.place.site_inside)
 
   -- ---- if the site is 0 in the planes, it has 4
 
@@ -101,9 +103,9 @@ module _ {g : Grid} {site here grain whole : ℕ} {free : List ℕ} (word : IsWo
   -- the places of a tile that stay free, and the site's
   but_site : (k p : ℕ) → p < 64
       → bit (get_or free k 0) p ≡ on_tiles g (λ j. 1 - one_at site j) k p + only here (bit grain) k p
-  but_site k p low = omega (arith, word.all k p low, placed k p word.place low,
-      on_sum g (λ j. 1 - one_at site j) (one_at site) (λ j. 1) k p low
-      (λ j l. omega (arith, at_most_one (eqb site j))))
+  but_site k p low =
+      let sum = on_sum g (λ j. 1 - one_at site j) (one_at site) (λ j. 1) k p low (λ j l. omega (arith, at_most_one (eqb site j))) in
+      omega (arith, word.all k p low, placed k p word.place low)
 
   -- the word without the site
   pub without : (p : ℕ) → p < 64 → (bit (bit_xor whole grain) p ≡ on_tiles g (λ j. 1 - one_at site j) here p)

@@ -34,9 +34,11 @@ gained g k new b j inside ik beside fits blank =
     let p = place_of g j in
     let im = inner g j inside in
     rw (beside.north, beside.south, beside.west, beside.east, beside.west_shift, beside.east_shift)
-    (omega (arith, flow_on_tiles g (only k (bit new)) j blank inside,
-    north_rim g (bit new) k m p (omega arith), south_rim g (bit new) k m p (omega arith),
-    east_rim g (bit new) k m p im ik, west_rim g (bit new) k m p im ik))
+    (
+    let tiles = flow_on_tiles g (only k (bit new)) j blank inside in
+    let rim = north_rim g (bit new) k m p (omega arith) in
+    let rim' = south_rim g (bit new) k m p (omega arith) in
+    omega (arith, east_rim g (bit new) k m p im ik, west_rim g (bit new) k m p im ik))
 
 -- what a tile has before and after the places of the set `new` topple
 record Pays (t v : Tile) (free : ℕ) (new : ℕ → ℕ) : Type 0 where
@@ -79,12 +81,14 @@ visited_wave {g} {site} {free = free} {τ} {t = t} {k} {start} {new} {b} s more 
     (λ y x less out. newly from k s begins visits (tile g y x) (place y x) (omega arith)
     ∙ on_tiles_blank g n y x less out)) in (
       record {
-        inside = λ m p l. omega (arith, (pays m).once p l, newly from k s begins visits m p l,
-            on_sum g u n v m p l (λ j less. sum j));
-        at_open = λ j l ne. omega (arith, flows j l, sums (tile_of g j) (place_of g j),
-            (pays (tile_of g j)).at_open (place_of g j) (place_below g j) (free_at from j l ne));
-        at_held = omega (arith, flows site from.inside, sums (tile_of g site) (place_of g site),
-            (pays (tile_of g site)).modulo (place_of g site) (place_below g site));
+        inside = λ m p l. omega
+            (arith, (pays m).once p l, newly from k s begins visits m p l, on_sum g u n v m p l (λ j less. sum j));
+        at_open = λ j l ne.
+            let pays' = (pays (tile_of g j)).at_open (place_of g j) (place_below g j) (free_at from j l ne) in
+            omega (arith, flows j l, sums (tile_of g j) (place_of g j));
+        at_held =
+            let pays' = (pays (tile_of g site)).modulo (place_of g site) (place_below g site) in
+            omega (arith, flows site from.inside, sums (tile_of g site) (place_of g site));
         needed = λ w stable j l. omega (arith, sum j, needed_next from s wave begins first w stable visits j l);
       },
       sum,

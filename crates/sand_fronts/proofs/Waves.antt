@@ -30,8 +30,8 @@ flow_four_at_most g u few j l = omega (arith, flow_le g u (λ m. 1) few j l, flo
 around_some : (g : Grid) (v : ℕ → ℕ) (j : ℕ) → j < sites g
     → around (on_tiles g v (tile_of g j)) (place_of g j) ≤ flow g v j
 around_some g v j l =
-    omega (arith, flow_on_tiles g (on_tiles g v) j (on_tiles_blank g v) l,
-    flow_same g (at_site g (on_tiles g v)) v (λ i m. at_on g v i m) j l)
+    let same = flow_same g (at_site g (on_tiles g v)) v (λ i m. at_on g v i m) j l in
+    omega (arith, flow_on_tiles g (on_tiles g v) j (on_tiles_blank g v) l)
 
 -- what each wave of a drop begins with: the heights h, of which the dropped site has 4, and all other sites free
 pub record IsStart (g : Grid) (site : ℕ) (h : ℕ → ℕ) (free : ℕ → ℕ) : Type 0 where
@@ -73,8 +73,9 @@ set_is g τ j = bit_le _ _
 
 module _ {g : Grid} {site : ℕ} {h free : ℕ → ℕ} (from : IsStart g site h free) where
   pub free_at : (j : ℕ) → j < sites g → j ≢ site → bit (free (tile_of g j)) (place_of g j) ≡ 1
-  free_at j l ne = omega (arith, from.all_open (tile_of g j) (place_of g j) (place_below g j),
-      at_on g (λ i. 1 - one_at site i) j l, one_at_other site j (λ e. ne (sym e)))
+  free_at j l ne =
+      let open' = from.all_open (tile_of g j) (place_of g j) (place_below g j) in
+      omega (arith, at_on g (λ i. 1 - one_at site i) j l, one_at_other site j (λ e. ne (sym e)))
 
   -- a tile is ready for a visit
   pub wave_ready : {τ : ℕ → Tile} (k start s : ℕ) → IsUnderWay g site h τ (λ m p. 0) → Starts g site s k start
@@ -87,18 +88,21 @@ module _ {g : Grid} {site : ℕ} {h free : ℕ → ℕ} (from : IsStart g site h
       on_each g k q (λ (r : (ℕ → ℕ) → ℕ). bit (free k) q ≡ r (λ j. 1 - one_at site j)
       → bit start q ≡ r (λ j. s * one_at site j) → bit (τ k).wave q ≡ r t
       → (unused (free k) start (τ k).wave q ≤ r rest) × (bit start q ≡ 1 → (bit (free k) q ≡ 0) × (bit (τ k).wave q ≡ 0))) l
-      (λ j m o b i. (omega (arith, bit_le (free k) q, bit_le start q),
-      λ is. (grind (arith, nat_tests), grind (arith, nat_tests))))
+      (λ j m o b i. (
+        omega (arith, bit_le (free k) q, bit_le start q),
+        λ is. (grind (arith, nat_tests), grind (arith, nat_tests)),
+      ))
       (λ o b i. (omega arith, λ is. absurd (omega arith))) (from.all_open k q l) (begins q l) (wave.inside k q l) in
       record {
         low = λ p l is.
             let yes = open_site g site free k p from.all_open l is in
             let at = there_again g k p l yes.0 in
             let j = site_on g k p in
-            omega (arith, rw (at.1, at.2) at (wave.at_open j at.0 yes.1), from.low j at.0 yes.1,
-            around_le (unused (free k) start (τ k).wave) (on_tiles g rest k) p l (λ q m. (each q m).0),
-            rw (at.1, at.2) at (around_some g rest j at.0), flow-add g t rest j,
-            flow_four_at_most g (λ i. t i + rest i) (λ i m. omega (arith, set_is g τ i)) j at.0);
+            let open' = rw (at.1, at.2) at (wave.at_open j at.0 yes.1) in
+            let le = around_le (unused (free k) start (τ k).wave) (on_tiles g rest k) p l (λ q m. (each q m).0) in
+            let some = rw (at.1, at.2) at (around_some g rest j at.0) in
+            let most = flow_four_at_most g (λ i. t i + rest i) (λ i m. omega (arith, set_is g τ i)) j at.0 in
+            omega (arith, from.low j at.0 yes.1, flow-add g t rest j);
         held = λ p l. (each p l).1;
       }
 
@@ -122,16 +126,18 @@ module _ {g : Grid} {site : ℕ} {h free : ℕ → ℕ} (from : IsStart g site h
               let more = least_action g h t w site 1 from.inside stable below in
               let high = from.high in
               let some : s ≤ w site - t site = grind arith in
-              omega (arith, begins p low, on_tiles_le g (λ j. s * one_at site j) rest k p low
-              (λ j l. let e = cases_eq site j in grind (arith, nat_tests)));
+              let le = on_tiles_le g (λ j. s * one_at site j) rest k p low (λ j l. let e = cases_eq site j in grind (arith, nat_tests)) in
+              omega (arith, begins p low);
           at_most_three = λ p low is.
               let yes = open_site g site free k p from.all_open low is in
               let at = there_again g k p low yes.0 in
               let j = site_on g k p in
-              omega (arith, rw (at.1, at.2) at (wave.at_open j at.0 yes.1), stable.at_most_three j at.0, below j at.0,
-              rw (at.1, at.2) at (around_some g rest j at.0), on_site g rest k p yes.0, on_site g t k p yes.0,
-              wave.inside k p low, flow-add g t rest j,
-              flow_same g (λ i. t i + rest i) w (λ i l. omega (arith, below i l)) j at.0);
+              let open' = rw (at.1, at.2) at (wave.at_open j at.0 yes.1) in
+              let three = stable.at_most_three j at.0 in
+              let some = rw (at.1, at.2) at (around_some g rest j at.0) in
+              let site = on_site g rest k p yes.0 in
+              let same = flow_same g (λ i. t i + rest i) w (λ i l. omega (arith, below i l)) j at.0 in
+              omega (arith, below j at.0, on_site g t k p yes.0, wave.inside k p low, flow-add g t rest j);
         }
 
     -- and topples the sites that topple in a visit
@@ -160,9 +166,10 @@ module _ {g : Grid} {site : ℕ} {h free : ℕ → ℕ} (from : IsStart g site h
             let four = flow_four_at_most g t (λ i m. set_is g τ i) j l in
             let has = wave.at_open j l ne in
             let low = from.low j l ne in
-            omega (arith, flows j l,
-            gains.each (tile_of g j) (place_of g j) (place_below g j) (free_at j l ne) (omega arith));
-        at_held = omega (arith, wave.at_held, flows site from.inside,
-            gains.modulo (tile_of g site) (place_of g site) (place_below g site));
+            let each' = gains.each (tile_of g j) (place_of g j) (place_below g j) (free_at j l ne) (omega arith) in
+            omega (arith, flows j l);
+        at_held =
+            let modulo' = gains.modulo (tile_of g site) (place_of g site) (place_below g site) in
+            omega (arith, wave.at_held, flows site from.inside);
         needed = λ w stable j l. omega (arith, same j, wave.needed w stable j l);
       }

@@ -20,8 +20,9 @@ topple_wave-requires-clause-rest c = record {
 }
 
 pub count_wave-wave-requires-clause-bound : goal.count_wave-wave-requires-clause-bound
-count_wave-wave-requires-clause-bound c m p low = omega (arith, bit_le (tiles_of c.topple_wave.new.self m).wave p,
-    few_counted m p c.requires.board.beside.sides c.waves.invariant.passed low (c.requires.bound m p low))
+count_wave-wave-requires-clause-bound c m p low =
+    let counted = few_counted m p c.requires.board.beside.sides c.waves.invariant.passed low (c.requires.bound m p low) in
+    omega (arith, bit_le (tiles_of c.topple_wave.new.self m).wave p)
 
 pub height_at-requires : goal.height_at-requires
 height_at-requires c = omega (arith, place_below c.args.board.now.shape c.args.drop.site, c.requires.drop.place)
@@ -69,8 +70,10 @@ overflow_add-total-in-waves c =
 height_is : (c : After-height_at) → c.height_at.result
     ≡ heights_on c.args.board.now.shape (tiles_of c.count_wave-wave.new.sand) c.args.drop.site
 height_is c = height_read c.args.board.now.shape c.args.drop.site _
-    (omega (arith, tile_inside c.args.board.now.shape c.args.drop.site c.requires.drop.inside, c.requires.drop.tile,
-    c.count_wave-wave.ensures.counted.tiles_each, c.topple_wave.ensures.sand.len))
+    (
+    let inside' = tile_inside c.args.board.now.shape c.args.drop.site c.requires.drop.inside in
+    let each = c.count_wave-wave.ensures.counted.tiles_each in
+    omega (arith, c.requires.drop.tile, c.topple_wave.ensures.sand.len))
     c.index.ensures c.requires.drop.tile c.requires.drop.place c.height_at.ensures
 
 pub waves-smaller : goal.waves-smaller
@@ -85,8 +88,8 @@ waves-preserved c =
     record {
       sand = record {
         len = counted.tiles_each ∙ c.topple_wave.ensures.sand.len;
-        room = omega (arith, c.topple_wave.ensures.sand.room,
-            ap (λ (l : ListView). l.room) c.count_wave-wave.ensures.list);
+        room = omega
+            (arith, c.topple_wave.ensures.sand.room, ap (λ (l : ListView). l.room) c.count_wave-wave.ensures.list);
       };
       counts = record {
         len = counted.counts_each ∙ c.waves.invariant.counts.len;

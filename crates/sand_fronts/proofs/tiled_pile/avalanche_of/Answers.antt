@@ -9,14 +9,16 @@ use Rattle.sand_fronts.proofs.tiled_pile.avalanche_of.Goals as goal
 
 pub overflow_cast-result : goal.overflow_cast-result
 overflow_cast-result c = record {
-  fits = omega (arith, c.take_all-area.ensures.area, c.requires.fits.0, c.requires.len,
-      few_in_sets (length c.args.marks.now.sets) (slice_index c.args.marks.now.sets));
+  fits =
+      let sets' = few_in_sets (length c.args.marks.now.sets) (slice_index c.args.marks.now.sets) in
+      omega (arith, c.take_all-area.ensures.area, c.requires.fits.0, c.requires.len);
 }
 
 pub overflow_cast-result-2 : goal.overflow_cast-result-2
 overflow_cast-result-2 c = record {
-  fits = omega (arith, small_reach c.args.shape c.args.site c.requires.fits.1 c.requires.site c.requires.at_sites
-      c.take_all-area.ensures.reach);
+  fits =
+      let reach' = small_reach c.args.shape c.args.site c.requires.fits.1 c.requires.site c.requires.at_sites c.take_all-area.ensures.reach in
+      omega arith;
 }
 
 pub returns-clause-avalanche : goal.returns-clause-avalanche

@@ -52,8 +52,9 @@ gets c =
 height_is : (c : After-height_at) → c.height_at.result ≡ heights_on c.args.board.now.shape
     (tile_at (set c.args.sand.now.tiles.items c.find-tile.result.0 c.receive.new.tile)) c.args.site
 height_is c = height_read c.args.board.now.shape c.args.site _
-    (omega (arith, c.find-tile.ensures.inside.0, c.requires.pile.sand.len, length-set {A = Tile}
-    c.args.sand.now.tiles.items c.find-tile.result.0 c.receive.new.tile))
+    (
+    let set' = length-set {A = Tile} c.args.sand.now.tiles.items c.find-tile.result.0 c.receive.new.tile in
+    omega (arith, c.find-tile.ensures.inside.0, c.requires.pile.sand.len))
     c.index.ensures c.find-tile.ensures.tile c.find-tile.ensures.place c.height_at.ensures
 
 pub returns-then-height_at-ne0 : goal.returns-then-height_at-ne0
