@@ -1,4 +1,4 @@
-use Rattle.std.proofs.Common.{◌∙◌, ℕ, ◌+◌, ◌<◌, ◌≤◌, ap, arith, get_or, refl, sym, true≢false}
+use Rattle.std.proofs.Common.{◌∙◌, ℕ, ◌+◌, ◌<◌, ap, arith, get_or}
 use Rattle.sand_model.specs.Grid.{sites}
 use Rattle.sand_certify.specs.Certificate.{IsLeftAt}
 use Rattle.sand_certify.proofs.Pushed.{pushed}
@@ -15,18 +15,6 @@ loop-site-preserved c = record {
       c.push_reserved.ensures.items (omega (arith, c.loop-site.invariant.made))
       c.loop-site.invariant.left c.in-Some.ensures;
 }
-
-pub returns-in_default-clause-exactly : goal.returns-in_default-clause-exactly
-returns-in_default-clause-exactly c =
-    let inside : c.loop-site.site < sites c.args.lattice.now =
-    omega (arith, c.loop-site-test.true, c.sites-sites.ensures.value, ap sites c.shape.ensures.value) in
-    ((λ e. absurd (true≢false (sym e))), (λ shown. absurd (c.in_default.ensures (shown.each c.loop-site.site inside))))
-
-pub returns-clause-exactly : goal.returns-clause-exactly
-returns-clause-exactly c =
-    let all : sites c.args.lattice.now ≤ c.loop-site.site =
-    omega (arith, c.loop-site-test.false, c.sites-sites.ensures.value, ap sites c.shape.ensures.value) in
-    ((λ e. record { each = λ i l. (c.loop-site.invariant.left i (omega (arith, all, l))).shown }), (λ shown. refl))
 
 pub returns-clause-settled : goal.returns-clause-settled
 returns-clause-settled c =
