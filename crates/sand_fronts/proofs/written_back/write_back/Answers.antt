@@ -18,7 +18,7 @@ loop-position-init c = record {
   bound = λ m p low. omega arith;
   listed = λ m. ⊎_elim
       (λ (none : marks_of c.args.counts.now m ≡ 0). inl (λ p low. c.requires.no_other m p low (rw none (bit_none p))))
-      inr
+      (λ at. inr (at.0, omega arith, at.2, at.3))
       (empty_or_listed c.args.counts.now.marks.sets c.args.counts.now.marks.tiles c.len-position-end.ensures.lists m);
   added = λ j l. refl;
   follows = follows_none c.args.shape c.args.heights.now c.args.odometer.now c.requires.low;
