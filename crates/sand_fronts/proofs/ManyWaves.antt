@@ -58,9 +58,7 @@ held_has : {g : Grid} {site : ℕ} {ρ τ : ℕ → Tile} (more : Bool) → HasP
 held_has {g} {site} {ρ} {τ} more past test =
     let t = toppled g τ in
     let four = one_at_same site in
-    let empty = past.empty in
-    let started = past.whole.started in
-    let held = past.whole.wave.at_held in
+    let empty = past.empty in let started = past.whole.started in let held = past.whole.wave.at_held in
     let one : ℕ → ℕ → ℕ = λ i j. 1 * one_at i j in
     let most = flow_le g t (λ j. 1) (λ j l. bit_le (τ (tile_of g j)).wave (place_of g j)) site past.inside in
     let ones = flow_ones g site in
@@ -157,11 +155,8 @@ pub waves_more : {g : Grid} {site : ℕ} {τ σ : ℕ → Tile} {us vs : List Ti
     → Waved g site (ltb 1 size && eqb height 0) τ σ (tile_at vs) c (counts_of d) (counts_of e) size gone
 waves_more {g} {site} {τ} {σ} {us} {vs} {c} {d} {e} {size} {height = height} wave read =
     let more = ltb 1 size && eqb height 0 in
-    let ω = tile_at us in
-    let ρ = tile_at vs in
-    let counts = wave.counts in
-    let before = wave.before in
-    let whole = wave.whole in
+    let ω = tile_at us in let ρ = tile_at vs in
+    let counts = wave.counts in let before = wave.before in let whole = wave.whole in
     let t = toppled g ω in
     let h = heights_before g site σ in
     let k = heights_now g site more ρ in

@@ -109,7 +109,7 @@ pub site_seen : (g : Grid) (s : Sand) (c : Counts) {v : TiledView} {k p : ℕ} (
 site_seen g s c {k = k} {p} x y view inside tile place = subst (λ (v : TiledView).
     y * v.grid.width + x < sites v.grid → (height (tiles_of s k) p ≡ slice_index v.heights (y * v.grid.width + x))
     × (counted (counts_of c k) p ≡ slice_index v.times (y * v.grid.width + x))) view
-    (λ l. rw (tile, place) (
-      sym (by_site_at g (heights_on g (tiles_of s)) (y * g.width + x) l),
-      sym (by_site_at g (counted_on g (counts_of c)) (y * g.width + x) l),
-    )) inside
+    (λ l.
+    let h = by_site_at g (heights_on g (tiles_of s)) (y * g.width + x) l in
+    let n = by_site_at g (counted_on g (counts_of c)) (y * g.width + x) l in
+    rw (tile, place) (sym h, sym n)) inside

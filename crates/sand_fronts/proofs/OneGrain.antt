@@ -62,8 +62,7 @@ module _ {g : Grid} {site : ℕ} {ts : List Tile} {here grain free : ℕ} {was t
   calm_quiet = record {
     clear = λ m p low. gains.wave m p low ∙ gets.quiet.clear m p low;
     none_due = λ m p low.
-        let clear = gets.quiet.clear m p low in
-        let none = gets.quiet.none_due m p low in
+        let clear = gets.quiet.clear m p low in let none = gets.quiet.none_due m p low in
         let held = gets.held p low in
         let either = cases_eq m here in
         let low' = height_low (tile_at ts m) p in
@@ -72,15 +71,13 @@ module _ {g : Grid} {site : ℕ} {ts : List Tile} {here grain free : ℕ} {was t
         grind (arith, bit_le free p, gains.wave m p low, gains.modulo m p low, gains.each m p low);
   }
 
-  -- ---- if the site has no 4, the pile is settled
-
+  -- if the site has no 4, it had fewer than 3
   pub few_before : heights_on g (tile_at (set ts here t)) site ≢ 0 → heights_on g (tile_at ts) site < 3
   few_before some =
       let low = height_low (tile_at ts (tile_of g site)) (place_of g site) in
       grind (arith, nat_tests, grain_heights site gets.place.site_inside)
 
-  -- ---- if the site is 0 in the planes, it has 4
-
+  -- if the site is 0 in the planes, it has 4
   pub due_heights : heights_on g (tile_at (set ts here t)) site ≡ 0 → (j : ℕ) → j < sites g
       → heights_before g site (tile_at (set ts here t)) j ≡ heights_on g (tile_at ts) j + one_at site j
   due_heights empty j l =

@@ -68,9 +68,6 @@ unfolding on_tiles
 open_site g site free k p open' low is =
     (grind (arith, nat_tests), λ (same : site_on g k p ≡ site). grind (arith, nat_tests))
 
-set_is : (g : Grid) (τ : ℕ → Tile) (j : ℕ) → toppled g τ j ≤ 1
-set_is g τ j = bit_le _ _
-
 module _ {g : Grid} {site : ℕ} {h free : ℕ → ℕ} (from : IsStart g site h free) where
   pub free_at : (j : ℕ) → j < sites g → j ≢ site → bit (free (tile_of g j)) (place_of g j) ≡ 1
   free_at j l ne =
@@ -101,7 +98,7 @@ module _ {g : Grid} {site : ℕ} {h free : ℕ → ℕ} (from : IsStart g site h
             let open' = rw (at.1, at.2) at (wave.at_open j at.0 yes.1) in
             let le = around_le (unused (free k) start (τ k).wave) (on_tiles g rest k) p l (λ q m. (each q m).0) in
             let some = rw (at.1, at.2) at (around_some g rest j at.0) in
-            let most = flow_four_at_most g (λ i. t i + rest i) (λ i m. omega (arith, set_is g τ i)) j at.0 in
+            let most = flow_four_at_most g (λ i. t i + rest i) (λ i m. omega (arith, bit_le (τ (tile_of g i)).wave (place_of g i))) j at.0 in
             omega (arith, from.low j at.0 yes.1, flow-add g t rest j);
         held = λ p l. (each p l).1;
       }
@@ -147,8 +144,7 @@ module _ {g : Grid} {site : ℕ} {h free : ℕ → ℕ} (from : IsStart g site h
     needed_next visits j l =
         let rest : ℕ → ℕ = λ i. w i - toppled g τ i in
         let least = visits.least (on_tiles g rest k) calm (place_of g j) (place_below g j) in
-        let value = at_on g rest j l in
-        let below = wave.needed w stable j l in
+        let value = at_on g rest j l in let below = wave.needed w stable j l in
         grind (arith, nat_tests)
 
   -- the grains under way arrive
@@ -163,9 +159,8 @@ module _ {g : Grid} {site : ℕ} {h free : ℕ → ℕ} (from : IsStart g site h
         inside = λ m p l. on_tiles_is g (λ k q. bit (σ k).wave q) m p l
             (λ no. gains.wave m p l ∙ wave.inside m p l ∙ off_site g t m p no);
         at_open = λ j l ne.
-            let four = flow_four_at_most g t (λ i m. set_is g τ i) j l in
-            let has = wave.at_open j l ne in
-            let low = from.low j l ne in
+            let four = flow_four_at_most g t (λ i m. bit_le _ _) j l in
+            let has = wave.at_open j l ne in let low = from.low j l ne in
             let each' = gains.each (tile_of g j) (place_of g j) (place_below g j) (free_at j l ne) (omega arith) in
             omega (arith, flows j l);
         at_held =

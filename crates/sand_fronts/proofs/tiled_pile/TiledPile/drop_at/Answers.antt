@@ -17,8 +17,7 @@ avalanche_of-requires-clause-at_sites c = sites_toppled _ _ _ c.topple_grain-tot
 
 pub invariant_of-self : goal.invariant_of-self
 invariant_of-self c =
-    let is = c.topple_grain-total.ensures in
-    let each = is.settled.counts in
+    let is = c.topple_grain-total.ensures in let each = is.settled.counts in
     pile_after is.shape is.board is.all_open is.settled
     (record {
       len = each.len;

@@ -87,8 +87,7 @@ avalanche_of-requires c =
 
 pub invariant_of-self-2 : goal.invariant_of-self-2
 invariant_of-self-2 c =
-    let is = c.topple_grain-total.ensures in
-    let each = is.settled.counts in
+    let is = c.topple_grain-total.ensures in let each = is.settled.counts in
     let written = c.write_back.ensures.written in
     pile_after is.shape is.board is.all_open is.settled
     (record {
@@ -102,7 +101,6 @@ invariant_of-self-2 c =
 
 pub returns : goal.returns
 returns c =
-    let is = c.topple_grain-total.ensures in
-    let written = c.write_back.ensures.written in
+    let is = c.topple_grain-total.ensures in let written = c.write_back.ensures.written in
     topples_into (at (goal.at.returns c).After-self) is.settled c.write_back.ensures.follows written is.shape
     (c.avalanche_of.ensures.avalanche _ (rw written.marks is.marked) is.size is.lost)
