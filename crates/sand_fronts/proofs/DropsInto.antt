@@ -124,8 +124,7 @@ module _ {g : Grid} {site : ℕ} {s : Sand} {c : Counts} {v : TiledView} {h u : 
     pub only_marked : AreToppled g (grown g c d) (marks_of d) → (m p : ℕ) → p < 64 → bit (marks_of d m) p ≡ 0
         → counted (counts_of d m) p ≡ 0
     only_marked marked m p low out =
-        let y = grown g c d in
-        let none = at.none m p low in
+        let y = grown g c d in let none = at.none m p low in
         on_each g m p (λ (r : (ℕ → ℕ) → ℕ). counted (counts_of d m) p ≡ counted (counts_of c m) p + r y
         → bit (marks_of d m) p ≡ r (λ j. one_if (ltb 0 (y j))) → counted (counts_of d m) p ≡ 0) low
         (λ j l now is. grind (arith, nat_tests)) (λ now is. omega arith) (has.counted m p low) (marked m p low)

@@ -88,9 +88,7 @@ module _ {g : Grid} {site : ℕ} {ρ τ : ℕ → Tile} (past : HasPassed g site
   pub four_again : (i : ℕ) → height (τ (tile_of g site)) (place_of g site) ≡ 0
       → i < sites g → i ≢ site → 1 ≤ toppled g τ i → flow g (toppled g τ) site ≡ 4
   four_again i empty li ni some =
-      let inside = past.inside in
-      let t = toppled g τ in
-      let held = past.whole.wave.at_held in
+      let inside = past.inside in let held = past.whole.wave.at_held in let t = toppled g τ in
       let most = flow_le g t (λ j. 1) (λ j l. bit_le _ _) site inside in
       let ones = flow_ones g site in
       let alone : flow g t site ≡ 0 → Stabilises g (heights_before g site ρ) (one_at site) = λ none. record {

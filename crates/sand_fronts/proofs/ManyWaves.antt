@@ -38,8 +38,7 @@ alone_rests : {g : Grid} {site : ℕ} {ρ τ : ℕ → Tile} → HasPassed g sit
     → ((j : ℕ) → j < sites g → toppled g τ j ≤ 1 * one_at site j) → flow g (toppled g τ) site ≡ 4 → ⊥
 alone_rests {g} {site} {ρ} {τ} past alone back =
     let t = toppled g τ in
-    let h = heights_before g site ρ in
-    let k = heights_before g site τ in
+    let h = heights_before g site ρ in let k = heights_before g site τ in
     let balance = wave_balance past {k = k} (record {
       others = λ j l ne. omega (arith, one_at_other site j (λ e. ne (sym e)));
       held = omega (arith, one_at_same site);
@@ -160,8 +159,7 @@ waves_more {g} {site} {τ} {σ} {us} {vs} {c} {d} {e} {size} {height = height} w
     let t = toppled g ω in
     let h = heights_before g site σ in
     let k = heights_now g site more ρ in
-    let u = grown_on g c (counts_of d) in
-    let v = grown_on g c (counts_of e) in
+    let u = grown_on g c (counts_of d) in let v = grown_on g c (counts_of e) in
     let same : (j : ℕ) → heights_on g ρ j ≡ heights_on g ω j =
     λ j. rw (counts.low (tile_of g j), counts.high (tile_of g j)) in
     let past : HasPassed g site σ ω = record { inside = wave.inside; empty = before.empty refl; whole = whole } in

@@ -68,8 +68,7 @@ pub visited_wave : {g : Grid} {site : ℕ} {h free : ℕ → ℕ} {τ : ℕ → 
     × ((j : ℕ) → toppled g (put k t τ) j ≡ toppled g τ j + at_site g (only k (bit new)) j)
 visited_wave {g} {site} {free = free} {τ} {t = t} {k} {start} {new} {b} s more from wave begins first ik beside visits
     fits sums =
-    let u = toppled g τ in
-    let v = toppled g (put k t τ) in
+    let u = toppled g τ in let v = toppled g (put k t τ) in
     let n : ℕ → ℕ = at_site g (only k (bit new)) in
     let pays : (m : ℕ) → Pays (τ m) (put k t τ m) (free m) (only k (bit new) m) =
     pays_put free τ k start new t visits in

@@ -61,8 +61,7 @@ pub returns-then-height_at-ne0 : goal.returns-then-height_at-ne0
 returns-then-height_at-ne0 c =
     let d = goal.at.returns-then-height_at-ne0 c in
     let g = c.args.board.now.shape in
-    let counts = counts_of c.args.counts.now in
-    let marks = marks_of c.args.counts.now in
+    let counts = counts_of c.args.counts.now in let marks = marks_of c.args.counts.now in
     let left = set c.args.sand.now.tiles.items c.find-tile.result.0 c.receive.new.tile in
     let gets = gets d.After-receive in
     let few = few_before gets (λ z. c.if-height_at-ne0.true (height_is d.After-height_at ∙ z)) in
