@@ -57,7 +57,9 @@ before {g} {site} {s} {c} {v} view counts inside none listed low each few =
       heights = λ j l. ap (λ xs. get_or xs j 0) all ∙ by_site_at g (heights_on g (tiles_of s)) j l;
       low = low;
       none = λ m p less.
-          let sites = few_at_sites g (counts_of c) 0 counts (λ j l. let e = ap (λ (w : TiledView). get_or w.times j 0) view in omega (arith, by_site_at g (counted_on g (counts_of c)) j l, none j)) m p less in
+          let most = few_at_sites g (counts_of c) 0 counts (λ j l.
+          let e = ap (λ (w : TiledView). get_or w.times j 0) view in
+          omega (arith, by_site_at g (counted_on g (counts_of c)) j l, none j)) m p less in
           omega arith;
       odometer_each = omega arith;
       few = λ j l. few j (omega arith);

@@ -199,7 +199,8 @@ missing_le g j = omega arith
 
 lost_few : (g : Grid) (u : ℕ → ℕ) → lost g u ≤ 4 * topplings g u
 lost_few g u =
-    let le' = sum_below_le (sites g) (λ j. missing g j * u j) (λ j. 4 * u j) (λ j l. mul-le-mul_right (u j) (missing_le g j)) in
+    let few = sum_below_le (sites g) (λ j. missing g j * u j) (λ j. 4 * u j)
+    (λ j l. mul-le-mul_right (u j) (missing_le g j)) in
     omega (arith, sum_below-scale (sites g) 4 u)
 
 pub none_lost : (g : Grid) (c : ℕ → Count) → 0 ≡ lost g (grown_on g c c)

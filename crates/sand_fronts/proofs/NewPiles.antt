@@ -87,7 +87,8 @@ few_missing g j n is = omega arith
 pub counts_no_site : (g : Grid) (c : ℕ → Count) → ((m p : ℕ) → p < 64 → counted (c m) p ≡ 0) → (m p : ℕ) → p < 64
     → counted (c m) p ≡ on_tiles g (counted_on g c) m p
 counts_no_site g c none m p low =
-    let below = on_below g (counted_on g c) m p 0 low (λ j l. omega (arith, none (tile_of g j) (place_of g j) (place_below g j))) in
+    let below = on_below g (counted_on g c) m p 0 low
+    (λ j l. omega (arith, none (tile_of g j) (place_of g j) (place_below g j))) in
     omega (arith, none m p low)
 
 pub counts_sites : (g : Grid) (c d : ℕ → Count)
@@ -95,7 +96,8 @@ pub counts_sites : (g : Grid) (c d : ℕ → Count)
     → ((m p : ℕ) → p < 64 → counted (d m) p ≡ counted (c m) p + on_tiles g (grown_on g c d) m p)
     → (m p : ℕ) → p < 64 → counted (d m) p ≡ on_tiles g (counted_on g d) m p
 counts_sites g c d before grown m p low =
-    let sum = on_sum g (counted_on g c) (grown_on g c d) (counted_on g d) m p low (λ j l. omega (arith, grown (tile_of g j) (place_of g j) (place_below g j))) in
+    let sum = on_sum g (counted_on g c) (grown_on g c d) (counted_on g d) m p low
+    (λ j l. omega (arith, grown (tile_of g j) (place_of g j) (place_below g j))) in
     omega (arith, before m p low, grown m p low)
 
 pub few_at_sites : (g : Grid) (c : ℕ → Count) (most : ℕ)

@@ -96,7 +96,8 @@ pub few_now : (g : Grid) (s : Sand) (c : Counts) → CountsSites g c
     → ((j : ℕ) → j < sites g → slice_index (tiled_view g s c).times j < 2 ^ 60) → (m p : ℕ) → p < 64
     → counted (counts_of c m) p < 2 ^ 60
 few_now g s c counts few m p low =
-    let sites = few_at_sites g (counts_of c) (2 ^ 60 - 1) counts (λ j l. omega (arith, by_site_at g (counted_on g (counts_of c)) j l, few j l)) m p low in
+    let most = few_at_sites g (counts_of c) (2 ^ 60 - 1) counts
+    (λ j l. omega (arith, by_site_at g (counted_on g (counts_of c)) j l, few j l)) m p low in
     omega arith
 
 -- ---- reading a site

@@ -101,7 +101,8 @@ module _ {g : Grid} {site here grain whole : ℕ} {free : List ℕ} (word : IsWo
   but_site : (k p : ℕ) → p < 64
       → bit (get_or free k 0) p ≡ on_tiles g (λ j. 1 - one_at site j) k p + only here (bit grain) k p
   but_site k p low =
-      let sum = on_sum g (λ j. 1 - one_at site j) (one_at site) (λ j. 1) k p low (λ j l. omega (arith, at_most_one (eqb site j))) in
+      let sum = on_sum g (λ j. 1 - one_at site j) (one_at site) (λ j. 1) k p low
+      (λ j l. omega (arith, at_most_one (eqb site j))) in
       omega (arith, word.all k p low, placed k p word.place low)
 
   -- the word without the site

@@ -84,7 +84,8 @@ module _ {g : Grid} {site : ℕ} {h free : ℕ → ℕ} (from : IsStart g site h
       × (bit start q ≡ 1 → (bit (free k) q ≡ 0) × (bit (τ k).wave q ≡ 0)) = λ q l.
       on_each g k q (λ (r : (ℕ → ℕ) → ℕ). bit (free k) q ≡ r (λ j. 1 - one_at site j)
       → bit start q ≡ r (λ j. s * one_at site j) → bit (τ k).wave q ≡ r t
-      → (unused (free k) start (τ k).wave q ≤ r rest) × (bit start q ≡ 1 → (bit (free k) q ≡ 0) × (bit (τ k).wave q ≡ 0))) l
+      → (unused (free k) start (τ k).wave q ≤ r rest)
+      × (bit start q ≡ 1 → (bit (free k) q ≡ 0) × (bit (τ k).wave q ≡ 0))) l
       (λ j m o b i. (
         omega (arith, bit_le (free k) q, bit_le start q),
         λ is. (grind (arith, nat_tests), grind (arith, nat_tests)),
@@ -98,7 +99,8 @@ module _ {g : Grid} {site : ℕ} {h free : ℕ → ℕ} (from : IsStart g site h
             let open' = rw (at.1, at.2) at (wave.at_open j at.0 yes.1) in
             let le = around_le (unused (free k) start (τ k).wave) (on_tiles g rest k) p l (λ q m. (each q m).0) in
             let some = rw (at.1, at.2) at (around_some g rest j at.0) in
-            let most = flow_four_at_most g (λ i. t i + rest i) (λ i m. omega (arith, bit_le (τ (tile_of g i)).wave (place_of g i))) j at.0 in
+            let most = flow_four_at_most g (λ i. t i + rest i)
+            (λ i m. omega (arith, bit_le (τ (tile_of g i)).wave (place_of g i))) j at.0 in
             omega (arith, from.low j at.0 yes.1, flow-add g t rest j);
         held = λ p l. (each p l).1;
       }
@@ -111,7 +113,8 @@ module _ {g : Grid} {site : ℕ} {h free : ℕ → ℕ} (from : IsStart g site h
       on_tiles_is g (only k (bit new)) m p low (λ no. grind (arith, nat_tests))
 
   module _ {τ : ℕ → Tile} {away : ℕ → ℕ → ℕ} {k start : ℕ} (s : ℕ) (wave : IsUnderWay g site h τ away)
-      (begins : Starts g site s k start) (first : toppled g τ site + s ≤ 1) (w : ℕ → ℕ) (stable : Stabilises g h w) where
+      (begins : Starts g site s k start) (first : toppled g τ site + s ≤ 1)
+      (w : ℕ → ℕ) (stable : Stabilises g h w) where
     -- whatever stabilises the pile leaves no 4 in this tile
     calm : Calms (τ k) (free k) start (on_tiles g (λ j. w j - toppled g τ j) k)
     calm =
@@ -123,7 +126,8 @@ module _ {g : Grid} {site : ℕ} {h free : ℕ → ℕ} (from : IsStart g site h
               let more = least_action g h t w site 1 from.inside stable below in
               let high = from.high in
               let some : s ≤ w site - t site = grind arith in
-              let le = on_tiles_le g (λ j. s * one_at site j) rest k p low (λ j l. let e = cases_eq site j in grind (arith, nat_tests)) in
+              let most = on_tiles_le g (λ j. s * one_at site j) rest k p low
+              (λ j l. let e = cases_eq site j in grind (arith, nat_tests)) in
               omega (arith, begins p low);
           at_most_three = λ p low is.
               let yes = open_site g site free k p from.all_open low is in

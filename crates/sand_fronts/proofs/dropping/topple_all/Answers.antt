@@ -21,7 +21,8 @@ topple_wave-requires-clause-rest c = record {
 
 pub count_wave-wave-requires-clause-bound : goal.count_wave-wave-requires-clause-bound
 count_wave-wave-requires-clause-bound c m p low =
-    let counted = few_counted m p c.requires.board.beside.sides c.waves.invariant.passed low (c.requires.bound m p low) in
+    let counted =
+    few_counted m p c.requires.board.beside.sides c.waves.invariant.passed low (c.requires.bound m p low) in
     omega (arith, bit_le (tiles_of c.topple_wave.new.self m).wave p)
 
 pub height_at-requires : goal.height_at-requires

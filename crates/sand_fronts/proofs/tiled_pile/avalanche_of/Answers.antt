@@ -17,7 +17,8 @@ overflow_cast-result c = record {
 pub overflow_cast-result-2 : goal.overflow_cast-result-2
 overflow_cast-result-2 c = record {
   fits =
-      let reach' = small_reach c.args.shape c.args.site c.requires.fits.1 c.requires.site c.requires.at_sites c.take_all-area.ensures.reach in
+      let small = small_reach c.args.shape c.args.site c.requires.fits.1 c.requires.site c.requires.at_sites
+      c.take_all-area.ensures.reach in
       omega arith;
 }
 
