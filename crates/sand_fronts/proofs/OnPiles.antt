@@ -1,7 +1,7 @@
 -- The result of a drop on a pile on tiles, as its contracts see it.
-use Rattle.std.proofs.Common.{ℕ, true, false, ⊎_elim, ltb, ◌≡◌, ◌+◌, ◌-◌, ◌*◌, ◌^◌, ◌<◌, ◌≤◌, refl, sym, ◌∙◌, ap, subst, arith}
+use Rattle.std.proofs.Common.{ℕ, ltb, ◌≡◌, ◌+◌, ◌-◌, ◌*◌, ◌^◌, ◌<◌, ◌≤◌, refl, sym, ◌∙◌, ap, subst, arith}
 use Rattle.std.specs.Prelude.{slice_index}
-use Rattle.std.proofs.lemmas.Bool.{cases_Bool}
+use Rattle.std.proofs.lemmas.Bool.Decides.{nat_tests}
 use Rattle.sand_model.specs.Grid.{Grid, sites, missing}
 use Rattle.sand_model.specs.Sand.{IsSettled, one_at}
 use Rattle.sand_model.specs.Lists.{one_if}
@@ -13,14 +13,14 @@ use Rattle.sand_fronts.specs.declared.board.Board.{Board}
 use Rattle.sand_fronts.specs.declared.sand.Sand.{Sand}
 use Rattle.sand_fronts.specs.declared.counts.Counts.{Counts}
 use Rattle.sand_fronts.specs.declared.avalanche.Avalanche.{Avalanche}
-use Rattle.sand_fronts.specs.Tiling.{tile_of, place_of, is_site}
+use Rattle.sand_fronts.specs.Tiling.{tile_of, place_of, on_tiles}
 use Rattle.sand_fronts.specs.Marking.{AreToppled, AreSites}
 use Rattle.sand_fronts.specs.Waves.{AreAllOpen}
 use Rattle.sand_fronts.specs.Drops.{heights_on, counted_on}
 use Rattle.sand_fronts.specs.Avalanches.{IsAvalanche, has_toppled}
 use Rattle.sand_fronts.specs.Boards.{free_of, tiles_of, counts_of, marks_of, grown, IsBoard, IsSand, AreCounts, CountsSites, HasSettled}
 use Rattle.sand_fronts.specs.TiledPiles.{TiledView, IsTiledPile, IsTiledView, tiled_view, by_site, toppled_between}
-use Rattle.sand_fronts.proofs.OnTiles.{place_below, off_site}
+use Rattle.sand_fronts.proofs.OnTiles.{place_below}
 use Rattle.sand_fronts.proofs.NewPiles.{by_site_at, by_site_le, by_site_view, few_at_sites}
 
 pub avalanche_same : (g : Grid) (site : ℕ) (u v : ℕ → ℕ) (a : Avalanche)
@@ -52,11 +52,8 @@ pile_after {b} {s} {e = e} same board open' has counts at none = record {
 }
 
 pub sites_toppled : (g : Grid) (v words : ℕ → ℕ) → AreToppled g v words → AreSites g words
-sites_toppled g v words toppled m p low is = ⊎_elim
-    (λ (yes : is_site g m p ≡ true). yes)
-    (λ (no : is_site g m p ≡ false).
-    absurd (omega (arith, toppled m p low, off_site g (λ j. one_if (ltb 0 (v j))) m p no)))
-    (cases_Bool (is_site g m p))
+unfolding on_tiles
+sites_toppled g v words toppled m p low is = let marked = toppled m p low in grind (arith, nat_tests)
 
 -- a drop at a site leads from v to w
 abbrev pub Dropped : TiledView → ℕ → TiledView → Avalanche → Type 0
@@ -73,10 +70,8 @@ pub dropped : {g i : Grid} {site : ℕ} (s : Sand) {t : Sand} {c d : Counts} {v 
     → tiled_view g s c ≡ v → i ≡ g → HasSettled g (λ j. heights_on g (tiles_of s) j + one_at site j) t c d
     → IsAvalanche g site (grown g c d) a → Dropped v site (tiled_view i t d) a
 dropped {g} {i} {site} s {t} {c} {d} {v} {a} view shape has is =
-    let old = heights_on g (tiles_of s) in
-    let new = heights_on g (tiles_of t) in
-    let before = counted_on g (counts_of c) in
-    let after = counted_on g (counts_of d) in
+    let old = heights_on g (tiles_of s) in let new = heights_on g (tiles_of t) in
+    let before = counted_on g (counts_of c) in let after = counted_on g (counts_of d) in
     let moved = toppled_between (tiled_view g s c) (tiled_view g t d) in
     let between : (j : ℕ) → j < sites g → grown g c d j ≡ moved j =
     λ j l. omega (arith, by_site_at g before j l, by_site_at g after j l) in

@@ -78,8 +78,7 @@ module _ {g : Grid} {site : ℕ} {h free : ℕ → ℕ} (from : IsStart g site h
   pub wave_ready : {τ : ℕ → Tile} (k start s : ℕ) → IsUnderWay g site h τ (λ m p. 0) → Starts g site s k start
       → toppled g τ site + s ≤ 1 → IsReady (τ k) (free k) start
   wave_ready {τ} k start s wave begins first =
-      let t = toppled g τ in
-      let rest : ℕ → ℕ = λ j. 1 - t j in
+      let t = toppled g τ in let rest : ℕ → ℕ = λ j. 1 - t j in
       let each : (q : ℕ) → q < 64 → (unused (free k) start (τ k).wave q ≤ on_tiles g rest k q)
       × (bit start q ≡ 1 → (bit (free k) q ≡ 0) × (bit (τ k).wave q ≡ 0)) = λ q l.
       on_each g k q (λ (r : (ℕ → ℕ) → ℕ). bit (free k) q ≡ r (λ j. 1 - one_at site j)
@@ -94,8 +93,7 @@ module _ {g : Grid} {site : ℕ} {h free : ℕ → ℕ} (from : IsStart g site h
       record {
         low = λ p l is.
             let yes = open_site g site free k p from.all_open l is in
-            let at = there_again g k p l yes.0 in
-            let j = site_on g k p in
+            let at = there_again g k p l yes.0 in let j = site_on g k p in
             let open' = rw (at.1, at.2) at (wave.at_open j at.0 yes.1) in
             let le = around_le (unused (free k) start (τ k).wave) (on_tiles g rest k) p l (λ q m. (each q m).0) in
             let some = rw (at.1, at.2) at (around_some g rest j at.0) in
@@ -118,8 +116,7 @@ module _ {g : Grid} {site : ℕ} {h free : ℕ → ℕ} (from : IsStart g site h
     -- whatever stabilises the pile leaves no 4 in this tile
     calm : Calms (τ k) (free k) start (on_tiles g (λ j. w j - toppled g τ j) k)
     calm =
-        let t = toppled g τ in
-        let rest : ℕ → ℕ = λ j. w j - t j in
+        let t = toppled g τ in let rest : ℕ → ℕ = λ j. w j - t j in
         let below = wave.needed w stable in
         record {
           start_in = λ p low.
@@ -131,8 +128,7 @@ module _ {g : Grid} {site : ℕ} {h free : ℕ → ℕ} (from : IsStart g site h
               omega (arith, begins p low);
           at_most_three = λ p low is.
               let yes = open_site g site free k p from.all_open low is in
-              let at = there_again g k p low yes.0 in
-              let j = site_on g k p in
+              let at = there_again g k p low yes.0 in let j = site_on g k p in
               let open' = rw (at.1, at.2) at (wave.at_open j at.0 yes.1) in
               let three = stable.at_most_three j at.0 in
               let some = rw (at.1, at.2) at (around_some g rest j at.0) in

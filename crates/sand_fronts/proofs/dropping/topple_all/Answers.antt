@@ -30,8 +30,7 @@ height_at-requires c = omega (arith, place_below c.args.board.now.shape c.args.d
 
 pub waves-init : goal.waves-init
 waves-init c =
-    let g = c.args.board.now.shape in
-    let counts = counts_of c.args.counts.now in
+    let g = c.args.board.now.shape in let counts = counts_of c.args.counts.now in
     record {
       sand = c.requires.sand;
       counts = c.requires.counts;

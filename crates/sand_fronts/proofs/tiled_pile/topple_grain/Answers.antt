@@ -100,8 +100,7 @@ topple_all-total-requires-clause-rest c =
 
 pub returns : goal.returns
 returns c =
-    let d = goal.at.returns c in
-    let g = c.args.board.now.shape in
+    let d = goal.at.returns c in let g = c.args.board.now.shape in
     let counts = counts_of c.args.counts.now in
     let new = tile_at (set c.args.sand.now.tiles.items c.find-tile.result.0 c.receive.new.tile) in
     let left = heights_on g (tiles_of c.topple_all-total.new.sand) in

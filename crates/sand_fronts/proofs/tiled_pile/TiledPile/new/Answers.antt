@@ -35,8 +35,7 @@ invariant_of-result c =
 
 pub returns : goal.returns
 returns c =
-    let g = c.in_ok-board.board.shape in
-    let e = c.in_ok-board.ensures.shape in
+    let g = c.in_ok-board.board.shape in let e = c.in_ok-board.ensures.shape in
     let τ = tile_at c.in_ok-tiles.tiles.items in
     record {
       grid = e;
