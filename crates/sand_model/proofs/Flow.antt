@@ -35,7 +35,8 @@ sum_by_spread n u [] below = sym (sum_below_same n (λ j. u j * 0) (λ j. 0) (λ
 sum_by_spread n u (x ∷ xs) below =
     let rest = sum_by_spread n u xs (All-tail (λ j. j < n) x xs below) in
     let here = sum_below-one_at n x u (All-head (λ j. j < n) x xs below) in
-    let both = sum_below_both n (λ j. u j * one_at x j) (λ j. u j * occurrences xs j) (λ j. u j * occurrences (x ∷ xs) j)
+    let both = sum_below_both n (λ j. u j * one_at x j) (λ j. u j * occurrences xs j)
+    (λ j. u j * occurrences (x ∷ xs) j)
     (λ j l. rw (sum_by-cons (λ k. one_at k j) x xs) (omega arith)) in
     sum_by-cons u x xs ∙ (omega arith)
 
@@ -77,7 +78,8 @@ flow_self_adjoint g f u =
     ∙ sum_below_same (sites g)
     (λ j. sum_below (sites g) (λ i. f i * (u j * occurrences (neighbours g i) j))) (λ j. u j * flow g f j)
     (λ j m.
-    sum_below_same (sites g) (λ i. f i * (u j * occurrences (neighbours g i) j)) (λ i. u j * (f i * occurrences (neighbours g j) i))
+    sum_below_same (sites g) (λ i. f i * (u j * occurrences (neighbours g i) j))
+    (λ i. u j * (f i * occurrences (neighbours g j) i))
     (λ i l. let both = neighbours_mutual g i j l m in rw both (omega arith))
     ∙ sum_below-scale (sites g) (u j) (λ i. f i * occurrences (neighbours g j) i)
     ∙ ap (λ k. u j * k) (sym (flow_spread g f j m)))

@@ -36,7 +36,8 @@ joins_if {n} {p} {q} {k} {joins} {l} {m} inside others keeps is now = record {
   items = ap (λ (v : ListView). v.items) now ∙ at_end joins l.items k;
   bound = let e = ap (λ (v : ListView). length v.items) now in let more = one_more joins l.items k in omega arith;
   room = ap (λ (v : ListView). v.room) now;
-  waiting = λ list all. subst (Lists n q) (at_end joins list k) (queued {p = p} {q = q} list inside others keeps is all);
+  waiting = λ list all.
+      subst (Lists n q) (at_end joins list k) (queued {p = p} {q = q} list inside others keeps is all);
 }
 
 -- ---- more than one

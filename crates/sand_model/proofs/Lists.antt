@@ -27,7 +27,8 @@ all_or_one (suc n) p = elim (all_or_one n p) [
 
 -- ---- what a listing says of one number
 
-occurrences-listing : (n : ℕ) (p : ℕ → Bool) (xs : List ℕ) (i : ℕ) → Lists n p xs → i < n → occurrences xs i ≡ one_if (p i)
+occurrences-listing : (n : ℕ) (p : ℕ → Bool) (xs : List ℕ) (i : ℕ) → Lists n p xs → i < n
+    → occurrences xs i ≡ one_if (p i)
 occurrences-listing n p xs i list l = list.each i ∙ rw (lt-ltb i n l) refl
 
 outside : (n : ℕ) (p : ℕ → Bool) (xs : List ℕ) (i : ℕ) → Lists n p xs → n ≤ i → occurrences xs i ≡ 0
@@ -133,7 +134,9 @@ lists_push n p q xs i list l fail pass others = record {
 pub lists_pop : (n : ℕ) (p q : ℕ → Bool) (xs : List ℕ) (i : ℕ) → Lists n p (i ∷ xs)
     → q i ≡ false → ((j : ℕ) → j < n → j ≢ i → p j ≡ q j) → Lists n q xs
 lists_pop n p q xs i list fail others = record {
-  each = λ j. grind (arith, nat_tests, occurrences-cons i xs j, at_most_once n p (i ∷ xs) j list, list.each j, others j);
+  each = λ j.
+      let few = at_most_once n p (i ∷ xs) j list in
+      grind (arith, nat_tests, occurrences-cons i xs j, list.each j, others j);
 }
 
 -- the same for the last number

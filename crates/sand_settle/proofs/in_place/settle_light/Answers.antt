@@ -27,5 +27,6 @@ overflow_sub-lost c = let all = settling (goal.at.overflow_sub-lost c).In_ok-is_
 
 pub returns-clause-record : goal.returns-clause-record
 returns-clause-record c = subst (IsSettledRecord c.args.shape _)
-    (same_parts refl refl refl (sym c.sum_of-topplings.ensures) (omega (arith, c.requires.counted, c.sum_of-left.ensures)))
+    (same_parts refl refl refl (sym c.sum_of-topplings.ensures)
+    (omega (arith, c.requires.counted, c.sum_of-left.ensures)))
     (settling (goal.at.returns-clause-record c).In_ok-is_settled).made

@@ -81,7 +81,8 @@ overflow_add-counts c =
     let at = turn (goal.at.overflow_add-counts c).After-item-site in
     omega (
       arith,
-      at_most_sum_below (sites c.args.lattice.now) (λ j. get_or c.loop-position.counts j 0) c.item-site.result at.inside,
+      at_most_sum_below (sites c.args.lattice.now) (λ j. get_or c.loop-position.counts j 0)
+          c.item-site.result at.inside,
       get_or-le-sum_by (λ x. x) c.loop-position.heights
           c.item-site.result 0 (omega (arith, at.inside, c.loop-position.invariant.heights_each)),
       at.few,

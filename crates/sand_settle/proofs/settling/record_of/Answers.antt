@@ -33,7 +33,8 @@ made c =
     let grid = ap (λ (p : PileView). p.grid) c.from_vec-settled.ensures ∙ c.shape.ensures.value in
     let sums = ap sum heights in
     subst (IsSettledRecord c.args.pile.now.grid (height_of c.args.pile.now))
-    (same_parts (sym grid) (sym heights) refl refl (omega (arith, c.grains-before.ensures.value, c.grains.ensures.value)))
+    (same_parts (sym grid) (sym heights) refl refl
+    (omega (arith, c.grains-before.ensures.value, c.grains.ensures.value)))
     (settles c.grains-before.ensures.pile c.requires.odometer_each c.requires.heights_each c.requires.settled).made
 
 pub of_parts-requires-clause-settled : goal.of_parts-requires-clause-settled

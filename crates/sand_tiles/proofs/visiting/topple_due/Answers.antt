@@ -14,7 +14,8 @@ returns c t start ready visit =
     let flood = bit_and three c.next_to.result in
     let flooded = flood_of u free c.next_to.result c.next_to.ensures in
     let few = and_le_r three c.next_to.result in
-    let fits = or_lt 64 u.wave (bit_or u.due flood) (omega arith) (or_lt 64 u.due flood (omega arith) (omega arith)) in (
+    let front = or_lt 64 u.due flood (omega arith) (omega arith) in
+    let fits = or_lt 64 u.wave (bit_or u.due flood) (omega arith) front in (
       visit_goes_on t u w free start flood four ready visit flooded c.topple_front-four.ensures fits,
       wave_grows t u w free start flood four ready visit flooded (omega arith),
       fits,
