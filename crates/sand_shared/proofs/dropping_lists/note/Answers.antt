@@ -1,11 +1,8 @@
-use Rattle.std.proofs.Common.{◌≡◌, ◌+◌, List, [], ◌∷◌, ◌++◌, drop, length, get_or, sym, refl, ap, ◌∙◌, arith, length-append}
+use Rattle.std.proofs.Common.{◌≡◌, ◌+◌, List, [], ◌∷◌, ◌++◌, drop, length, get_or, sym, ap, ◌∙◌, arith, length-append}
 use Rattle.std.proofs.lemmas.List.{drop_all, drop_more, append-nil, append_assoc}
 use Rattle.sand_shared.specs.declared.view.Receipt.{Receipt}
 use Rattle.sand_shared.specs.Events.{receipt, receipts_from}
 use Rattle.sand_shared.proofs.dropping_lists.note.Goals as goal
-
-pub drops-init : goal.drops-init
-drops-init c = record { next = omega arith; capacity = refl; len = omega arith; rest = refl }
 
 pub drops-preserved : goal.drops-preserved
 drops-preserved c =

@@ -10,12 +10,7 @@ use Rattle.sand_shared.specs.Passes.{PassView, at_rest}
 use Rattle.sand_shared.specs.Sweeps.{start_and_receipts}
 use Rattle.sand_shared.proofs.CompletedOdometer.{left_underway}
 use Rattle.sand_shared.proofs.LastPileIsSettled.{gathered}
-use Rattle.sand_shared.proofs.SeatOfPass.{still_bare}
 use Rattle.sand_shared.proofs.shared_pile.SharedPile.current_pile.Goals as goal
-
-pub invariant_of-pass : goal.invariant_of-pass
-invariant_of-pass c =
-    still_bare c.pass.inside c.read.new.seat c.pass.invariant c.read.ensures.view c.read.ensures.seat.bare
 
 pub returns-clause-underway : goal.returns-clause-underway
 returns-clause-underway c =

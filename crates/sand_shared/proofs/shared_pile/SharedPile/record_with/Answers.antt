@@ -2,15 +2,9 @@ use Rattle.std.proofs.Common.{ℕ, List, length, sym, refl, ap, ◌∙◌, subst
 use Rattle.std.specs.Prelude.{slice_index}
 use Rattle.sand_model.specs.Piles.{PileView}
 use Rattle.sand_shared.specs.Record.{Tells, IsCompleted}
-use Rattle.sand_shared.proofs.PassAfterEvent.{known_is}
-use Rattle.sand_shared.proofs.SeatOfPass.{still_bare}
 use Rattle.sand_shared.proofs.LastPileIsSettled.{gathered, gathered_record}
 use Rattle.sand_shared.proofs.CompletedOdometer.{stands_bare, completed_leads}
 use Rattle.sand_shared.proofs.shared_pile.SharedPile.record_with.Goals as goal
-
-pub invariant_of-pass : goal.invariant_of-pass
-invariant_of-pass c = still_bare c.pass.inside c.learn.new.seat c.pass.invariant
-    (known_is c.learn.new.seat.me.0 c.pass.inside.seat.me.0 c.learn.ensures.view) c.learn.ensures.seat.bare
 
 pub record_of-requires : goal.record_of-requires
 record_of-requires c =
