@@ -1,12 +1,10 @@
 -- A seat that has what a pass has is the seat of that pass.
-use Rattle.std.proofs.Common.{◌≡◌, ℕ, List, [], length, sym, refl, ap, ◌∙◌, subst}
+use Rattle.std.proofs.Common.{◌≡◌, ℕ, List, [], length, sym, ap, ◌∙◌, subst}
 use Rattle.atomic_table.specs.Seated.{TableId}
-use Rattle.atomic_table.specs.declared.shared.Seat.{Seat}
 use Rattle.sand_shared.specs.declared.bare_pass.BarePass.TheInside.{Inside}
 use Rattle.sand_shared.specs.declared.view.View.{View}
 use Rattle.sand_shared.specs.declared.view.Receipt.{Receipt}
 use Rattle.sand_shared.specs.Bare.{shown, IsBare}
-use Rattle.sand_shared.specs.Events.{looked}
 use Rattle.sand_shared.specs.Passes.{PassView, at_rest, EachOnce, AllBelow, IsPass}
 use Rattle.sand_shared.proofs.PassAfterEvent.{known_is}
 
@@ -32,11 +30,3 @@ seated {x = x} q spot least pass made has free is =
       each_made = made ∙ ap (λ (rs : List Receipt). length rs) same;
       pass = subst IsPass (sym is) (with_receipts pass (subst EachOnce same pass.once) (subst (AllBelow q.seen) same pass.below));
     }
-
--- a look or a load tells at most a height
-pub still_bare : (x : Inside) (seat : Seat ℕ View) → IsBare x
-    → seat.me.0 ≡ looked x.seat.me.0 seat.me.0.spot seat.me.0.least → seat.me.1 ≡ []
-    → IsBare (record x { seat = seat })
-still_bare x seat inv is free =
-    let v = seat.me.0 in
-    seated (shown x) v.spot v.least inv.pass inv.each_made (is ∙ (λ i. looked (inv.me i).0 v.spot v.least)) free refl
