@@ -12,7 +12,7 @@ use crate::pairs::both_at_once;
 use crate::records::{is_record, is_settled};
 use crate::shared::{bare_of, drop_rest};
 use sand_model::{Pile, Shape};
-use sand_shared::{BarePass, Pass, Record, SharedPile};
+use sand_shared::{BarePass, Pass, Record, SharedPile, SiteCounts};
 use std::alloc::Global;
 use std::marker::Model;
 use std::thread::Threads;
@@ -23,6 +23,8 @@ pub enum Call {
     DropAt(usize, usize),
     /// Makes all remaining drops of a pass at a site.
     DropRest(usize, usize),
+    /// Drops a grain on each site of a list, in one call.
+    DropAll(usize, &'static [usize]),
     Tally(usize),
     Sweep(usize),
     /// Gives a quota to a child, which is appended to the list.
@@ -65,11 +67,13 @@ pub enum Returned {
     NoSuch,
 }
 
-/// The ways to end a shared pile. The first two leave the same record.
+/// The ways to end a shared pile. All but the last leave the same record.
 #[derive(Clone, Copy)]
 pub enum Ending {
     Close,
     Settle,
+    /// Makes the record, but leaves the pile open.
+    RecordNow,
     /// Settles what is left with the last bare pass; its history is not written.
     SettleRest,
 }
@@ -108,6 +112,14 @@ fn is_inside(shape: Shape, site: Option<usize>) -> bool
         Some(site) => site < shape.sites(),
         None => true,
     }
+}
+
+// Whether all sites of a list are in the grid.
+fn are_inside(shape: Shape, list: &[usize]) -> bool
+    ensures { IsTrue result → All (λ s. s < sites shape) list.now }
+{
+    let sites = shape.sites();
+    list.iter().all(|site| *site < sites)
 }
 
 // Takes a pass out of a list.
@@ -186,6 +198,7 @@ pub struct PileWithPasses {
     // The list after a `JoinAll`, which takes the other one.
     spare: Vec<Pass>,
     bare: Vec<BarePass>,
+    counts: SiteCounts,
 }
 
 impl Model for PileWithPasses {
@@ -197,13 +210,18 @@ impl Model for PileWithPasses {
 
     ghost view = { λ _. tt };
 
-    ghost invariant = { λ p. (p.shape ≡ grid_of_terms p.pile.terms) × All (λ q. IsPassOf p.pile q) p.passes.items
+    ghost invariant = { λ p. (p.shape ≡ grid_of_terms p.pile.terms) × (p.counts ≡ p.shape)
+        × All (λ q. IsPassOf p.pile q) p.passes.items
         × All (λ q. IsPassOf p.pile q) p.spare.items × All (λ q. IsPassOf p.pile q) p.bare.items };
 }
 
 impl PileWithPasses {
     /// A shared pile with this start, or the number of the fault.
     pub fn of_start(alloc: Global, start: &Pile, quota: u64) -> Result<PileWithPasses, u32> {
+        let shape = start.shape();
+        let Ok(counts) = SiteCounts::new(alloc, shape) else {
+            return Err(4);
+        };
         let (mut passes, spare, bare) = (list(alloc)?, list(alloc)?, list(alloc)?);
         let (pile, pass) = match SharedPile::new(alloc, start, quota) {
             Ok(made) => made,
@@ -211,11 +229,12 @@ impl PileWithPasses {
         };
         put(&pile, &mut passes, 0, pass);
         Ok(PileWithPasses {
-            shape: start.shape(),
+            shape,
             pile,
             passes,
             spare,
             bare,
+            counts,
         })
     }
 
@@ -248,6 +267,7 @@ impl PileWithPasses {
         match call {
             Call::DropAt(pass, site) => self.drop_at(pass, site),
             Call::DropRest(pass, site) => self.drop_rest(pass, site),
+            Call::DropAll(pass, list) => self.drop_all(pass, list),
             Call::Tally(pass) => self.tally(pass),
             Call::Sweep(pass) => self.sweep(pass),
             Call::Split(pass, quota) => self.split(alloc, pass, quota),
@@ -281,6 +301,19 @@ impl PileWithPasses {
         }
         drop_rest(&self.pile, &mut self.passes[pass], site);
         Returned::Done
+    }
+
+    fn drop_all(&mut self, pass: usize, list: &[usize]) -> Returned {
+        if pass >= self.passes.len() || !are_inside(self.shape, list) {
+            return Returned::NoSuch;
+        }
+        match self
+            .pile
+            .drop_all(&mut self.passes[pass], list, &mut self.counts)
+        {
+            Ok(number) => Returned::Number(number),
+            Err(fault) => Returned::Fault(fault.number()),
+        }
     }
 
     fn tally(&mut self, pass: usize) -> Returned {
@@ -500,6 +533,7 @@ impl PileWithPasses {
             mut passes,
             spare,
             bare,
+            counts,
         } = self;
         let ended = match ending {
             Ending::Close => pile.close(alloc, first),
@@ -507,7 +541,7 @@ impl PileWithPasses {
         };
         match ended {
             Ok(record) => {
-                drop((passes, spare, bare));
+                drop((passes, spare, bare, counts));
                 Ok(record)
             }
             Err((fault, pile, first)) => {
@@ -518,6 +552,7 @@ impl PileWithPasses {
                     passes,
                     spare,
                     bare,
+                    counts,
                 };
                 Err((fault.number(), pile))
             }
@@ -539,6 +574,17 @@ impl PileWithPasses {
         }
     }
 
+    // Whether the record, made with the first pass, is as expected, or the number of the fault.
+    fn record_now(&mut self, alloc: Global, left: Left<'_>) -> Result<bool, u32> {
+        if self.passes.is_empty() {
+            return Ok(false);
+        }
+        match self.pile.record_now(alloc, &mut self.passes[0]) {
+            Ok(record) => Ok(is_left(record, left)),
+            Err(fault) => Err(fault.number()),
+        }
+    }
+
     /// Ends the shared pile, and returns whether this has the expected result. If it fails, everything comes back, with
     /// the number of the fault.
     pub fn end(
@@ -547,18 +593,22 @@ impl PileWithPasses {
         ending: Ending,
         left: Left<'_>,
     ) -> Result<bool, (u32, PileWithPasses)> {
-        if let Ending::SettleRest = ending {
-            return match self.settle_rest(alloc, left) {
-                Ok(is_right) => {
-                    drop(self);
-                    Ok(is_right)
-                }
-                Err(fault) => Err((fault, self)),
-            };
-        }
-        match self.record(alloc, ending) {
-            Ok(record) => Ok(is_left(record, left)),
-            Err(back) => Err(back),
+        let ended = match ending {
+            Ending::RecordNow => self.record_now(alloc, left),
+            Ending::SettleRest => self.settle_rest(alloc, left),
+            _ => {
+                return match self.record(alloc, ending) {
+                    Ok(record) => Ok(is_left(record, left)),
+                    Err(back) => Err(back),
+                };
+            }
+        };
+        match ended {
+            Ok(is_right) => {
+                drop(self);
+                Ok(is_right)
+            }
+            Err(fault) => Err((fault, self)),
         }
     }
 
