@@ -3,6 +3,7 @@
 ghost use Rattle.std.specs.Prelude.{◌≡◌, ◌<◌, length};
 ghost use Rattle.sand_lab.specs.Albums.{IsPlace};
 
+use crate::setup::TWO_EPOCHS;
 use sand_lab::{Album, Gate, LabFault, Note, Open, Role, Wish};
 use sand_testing::piles::one_site;
 use sand_testing::runs::{QUIET, run_into};
@@ -68,15 +69,8 @@ fn seen_by_two<R: Threads + Sync>(rt: &R, album: &Album) -> [Option<(u32, u64)>;
 #[test]
 fn each_epoch_is_at_its_place(rt: HostRuntime) -> Result<(), Fail> {
     let start = one_site(rt.alloc(), 0)?;
-    let wish = Wish {
-        droppers: 2,
-        drops: 3,
-        epochs: 2,
-        observers: 2,
-        ..QUIET
-    };
     let album = Album::new(rt.alloc(), 2)?;
-    let mut report = run_into(&rt, rt.alloc(), &start, wish, &Open, &album)?;
+    let mut report = run_into(&rt, rt.alloc(), &start, TWO_EPOCHS, &Open, &album)?;
     let (mut first, mut second) = (report.note(0), report.note(1));
     assert_eq!(rt; seen(&album, 0, &mut first), Some((0, 2)));
     assert_eq!(rt; seen(&album, 1, &mut second), Some((1, 0)));

@@ -1,18 +1,12 @@
 //! Single drops, lists of drops, quotas and tallies, on values worked out by hand.
 
-ghost use Rattle.std.specs.Prelude.{◌≡◌};
-ghost use Rattle.sand_model.specs.Grid.{sites};
-ghost use Rattle.sand_shared.specs.OpenPile.{grid_of_terms};
-ghost use Rattle.sand_shared.specs.Passes.{IsPassOf};
-
-use sand_model::{GRAIN_LIMIT, Pile, Shape};
-use sand_shared::{Pass, Record, SharedPile, SiteCounts};
-use sand_testing::pile_with_passes::Call::{DropAt, Join, Receipt, Split, Tally, ThrowAway};
+use sand_model::GRAIN_LIMIT;
+use sand_testing::pile_with_passes::Call::{
+    DropAll, DropAt, Join, Receipt, Split, Tally, ThrowAway,
+};
 use sand_testing::pile_with_passes::Returned::{Done, Dropped, Fault, Number};
 use sand_testing::pile_with_passes::{Left, PileWithPasses, Start, both_leave, is_there};
-use sand_testing::piles::{one_site, open_pile};
-use sand_testing::records::is_record;
-use std::alloc::Global;
+use sand_testing::piles::one_site;
 use std::test::Fail;
 
 // One site with this height, and this quota.
@@ -143,39 +137,23 @@ fn two_passes_drop_in_turn(rt: HostRuntime) {
     assert!(rt; both_leave(rt.alloc(), start, &calls, left));
 }
 
-// Drops a list after a single grain.
-fn drop_one_and_three(alloc: Global, shape: Shape, pile: &SharedPile, pass: &mut Pass) -> bool
-    requires pass { IsPassOf pile.now pass.old }
-    requires grid { grid_of_terms pile.now.terms ≡ shape }
-    requires three { sites shape ≡ 3 }
-    ensures { IsPassOf pile.now pass.new }
-{
-    let Ok(mut counts) = SiteCounts::new(alloc, shape) else {
-        return false;
-    };
-    pile.drop_at(pass, 2).is_ok() && pile.drop_all(pass, &[1, 0, 1], &mut counts).is_ok()
-}
-
-// The record of a single drop, then a list of drops.
-fn one_and_three(alloc: Global, start: &Pile) -> Option<Record>
-    requires { sites start.now.grid ≡ 3 }
-{
-    let (pile, mut pass) = SharedPile::new(alloc, start, 4).ok()?;
-    if !drop_one_and_three(alloc, start.shape(), &pile, &mut pass) {
-        drop((pile, pass));
-        return None;
-    }
-    pile.close(alloc, pass).ok()
-}
-
+// A list is dropped after a single grain.
 #[test]
-fn a_list_is_dropped_in_its_order(rt: HostRuntime) -> Result<(), Fail> {
-    let start = open_pile(rt.alloc(), 3, 1, &[0, 3, 0])?;
-    assert!(rt; start.shape().sites() == 3);
-    let record = one_and_three(rt.alloc(), &start);
-    drop(start);
-    let record = record.ok_or("four drops")?;
-    assert!(rt; is_record(&record, &[2, 1, 0, 1], &[2, 1, 2], &[0, 1, 0], 2));
-    drop(record);
-    Ok(())
+fn a_list_is_dropped_in_its_order(rt: HostRuntime) {
+    let start = Start {
+        sides: (3, 1),
+        heights: &[0, 3, 0],
+        quota: 4,
+    };
+    let left = Left {
+        history: &[2, 1, 0, 1],
+        heights: &[2, 1, 2],
+        odometer: &[0, 1, 0],
+        lost: 2,
+    };
+    let calls = [
+        (DropAt(0, 2), Number(0)),
+        (DropAll(0, &[1, 0, 1]), Number(1)),
+    ];
+    assert!(rt; both_leave(rt.alloc(), start, &calls, left));
 }

@@ -1,7 +1,7 @@
 //! Runs on piles worked out by hand. The result does not depend on how the work is spread over threads, or on the order
 //! of their turns.
 
-use crate::setup::{Left, is_left, leaves, run_gated};
+use crate::setup::{Left, TWO_EPOCHS, is_left, leaves, run_gated};
 use sand_lab::{Open, Wish};
 use sand_model::{Edge, GRAIN_LIMIT};
 use sand_testing::piles::{one_site, open_pile, pile_on};
@@ -33,14 +33,7 @@ fn climbs(tallies: &[u64]) -> bool {
 #[test]
 fn two_epochs_on_one_site(rt: HostRuntime) -> Result<(), Fail> {
     let start = one_site(rt.alloc(), 0)?;
-    let wish = Wish {
-        droppers: 2,
-        drops: 3,
-        epochs: 2,
-        observers: 2,
-        ..QUIET
-    };
-    let report = run_gated(&rt, rt.alloc(), start, wish, &Open)?;
+    let report = run_gated(&rt, rt.alloc(), start, TWO_EPOCHS, &Open)?;
     let [first, second] = report.records() else {
         panic!(rt; "two records");
     };

@@ -8,10 +8,19 @@ use sand_model::Pile;
 use sand_shared::Record;
 use sand_testing::piles::one_site;
 use sand_testing::records::is_record;
-use sand_testing::runs::run_into;
+use sand_testing::runs::{QUIET, run_into};
 use std::alloc::Global;
 use std::test::Fail;
 use std::thread::Threads;
+
+/// Two epochs, in which two droppers drop three grains each.
+pub const TWO_EPOCHS: Wish = Wish {
+    droppers: 2,
+    drops: 3,
+    epochs: 2,
+    observers: 2,
+    ..QUIET
+};
 
 /// The report of a run with an album of its own.
 pub fn run_gated<R: Threads + Sync, G: Gate>(
