@@ -8,7 +8,7 @@ use Rattle.std.proofs.lemmas.Bool.{cases_eq}
 use Rattle.std.proofs.lemmas.List.{get_or-set_same, get_or-set_other, length-set, get_or-replicate}
 use Rattle.std.proofs.lemmas.Bool.Decides.{nat_tests}
 use Rattle.sand_model.specs.Sand.{sum_below, one_at}
-use Rattle.sand_model.proofs.SumsBelow.{sum_below_same, sum_below-add, sum_below-one_at}
+use Rattle.sand_model.proofs.SumsBelow.{sum_below_same, sum_below-add, sum_below-one_at, sum_below_none}
 use Rattle.sand_tiles.specs.declared.tile.Tile.{Tile}
 use Rattle.sand_tiles.specs.declared.counting.Recent.{Recent}
 use Rattle.sand_tiles.specs.Places.{bit, number}
@@ -21,7 +21,7 @@ use Rattle.sand_fronts.specs.Counting.{spilled_at, over_wave, with_wave}
 use Rattle.sand_fronts.specs.Boards.{counts_of, marks_of, AreCounted, AddsSet, AreCleared}
 use Rattle.sand_fronts.specs.Marking.{MarksView, in_sets, AreMarked}
 use Rattle.sand_fronts.proofs.Gained.{tile_set}
-use Rattle.sand_fronts.proofs.Sums.{sum_below_none, sum_below_most}
+use Rattle.sand_fronts.proofs.Sums.{sum_below_most}
 use Rattle.sand_fronts.proofs.OnTiles.{height_low}
 
 -- a list of zeros for one tile more

@@ -4,7 +4,7 @@ use Rattle.std.proofs.lemmas.Bool.{cases_eq}
 use Rattle.std.proofs.lemmas.Bool.Decides.{nat_tests}
 use Rattle.sand_model.specs.Grid.{Grid, sites}
 use Rattle.sand_model.specs.Sand.{Stabilises, IsToppled, flow, one_at}
-use Rattle.sand_model.proofs.Flow.{flow_le, flow_same, flow-add, flow-one_at}
+use Rattle.sand_model.proofs.Flow.{flow_le, flow_same, flow-add, flow-one_at, flow_none}
 use Rattle.sand_model.proofs.Sandpile.{flow_ones, weight_after, laplacian_sum}
 use Rattle.sand_model.proofs.SumsBelow.{sum_below_same, sum_below-add, one_at_same, one_at_other, one_at_comm}
 use Rattle.sand_tiles.specs.declared.tile.Tile.{Tile}
@@ -14,7 +14,6 @@ use Rattle.sand_fronts.specs.Tiling.{tile_of, place_of}
 use Rattle.sand_model.specs.Underway.{Advances}
 use Rattle.sand_fronts.specs.Waves.{toppled, IsWholeWave, AreAtRest, heights_before}
 use Rattle.sand_fronts.proofs.OnTiles.{place_below, on_tiles_is, height_low}
-use Rattle.sand_fronts.proofs.Sums.{flow_none}
 use Rattle.sand_fronts.proofs.Waves.{IsUnderWay}
 
 -- before the first toppling

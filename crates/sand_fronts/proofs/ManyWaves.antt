@@ -8,10 +8,10 @@ use Rattle.sand_model.specs.Sand.{IsSettled, flow, one_at, topplings, lost, weig
 use Rattle.sand_model.specs.Underway.{Advances}
 use Rattle.sand_model.proofs.Flow.{flow_le}
 use Rattle.sand_model.proofs.Sandpile.{flow_ones, weight_after}
-use Rattle.sand_model.proofs.SumsBelow.{sum_below_same, sum_below_le, sum_below-add, sum_below-scale, sum_below-one_at, one_at_same, one_at_other}
+use Rattle.sand_model.proofs.SumsBelow.{sum_below_same, sum_below_le, sum_below-add, sum_below-scale, sum_below-one_at, one_at_same, one_at_other, sum_below_none}
 use Rattle.sand_model.proofs.Lists.{all_or_one, at_most_one}
 use Rattle.sand_model.proofs.Bounds.{at_most_sum_below, sites_limit, weight_bound}
-use Rattle.sand_model.proofs.Underway.{underway_start, underway_end}
+use Rattle.sand_model.proofs.Underway.{underway_start, underway_end, advances_on}
 use Rattle.sand_tiles.specs.declared.tile.Tile.{Tile}
 use Rattle.sand_tiles.specs.Places.{bit, number}
 use Rattle.sand_tiles.specs.Counts.{Count, counted}
@@ -25,7 +25,7 @@ use Rattle.sand_fronts.specs.Boards.{counts_of, AreCounted}
 use Rattle.sand_fronts.specs.Drops.{heights_on, grown_on, AreOutside, AreQuiet}
 use Rattle.sand_fronts.proofs.OnTiles.{place_below, on_sum, on_below, on_each, height_low}
 use Rattle.sand_fronts.proofs.Ends.{wave_balance, wave_advances, four_again, HasPassed, Leaves}
-use Rattle.sand_fronts.proofs.Sums.{sum_on_tiles, sum_below_most, sum_below_none}
+use Rattle.sand_fronts.proofs.Sums.{sum_on_tiles, sum_below_most}
 
 -- the heights between two waves: if the held site may topple again, it has 4 more than in the planes
 abbrev pub heights_now : Grid → ℕ → Bool → (ℕ → Tile) → ℕ → ℕ
@@ -109,14 +109,6 @@ lost_more g u v w e =
     sum_below_same (sites g) (λ j. missing g j * w j) (λ j. missing g j * u j + missing g j * v j)
     (λ j l. omega (arith, ap (λ m. missing g j * m) (e j l)))
     ∙ sum_below-add (sites g) (λ j. missing g j * u j) (λ j. missing g j * v j)
-
--- legal topplings after legal topplings
-pub advances_on : {g : Grid} {u t v r w q : ℕ → ℕ} → Advances g u t v r → Advances g v r w q → Advances g u t w q
-advances_on first second = record {
-  underway = λ s before. second.underway s (first.underway s before);
-  weight_pays = omega (arith, first.weight_pays, second.weight_pays);
-  grains_fall = omega (arith, first.grains_fall, second.grains_fall);
-}
 
 pub wave_lost : {g : Grid} {site : ℕ} {h : ℕ → ℕ} (ν : ℕ → Tile) {τ : ℕ → Tile} → AreOutside g ν → IsWave g site h τ
     → over_wave (tiles g) ν τ ≡ lost g (toppled g τ)

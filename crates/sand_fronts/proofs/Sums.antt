@@ -1,24 +1,16 @@
 -- A sum over all places of all tiles is the sum over all sites.
 use Rattle.std.proofs.Common.{ℕ, ◌≡◌, ◌*◌, ◌<◌, ◌≤◌, sym, ◌∙◌, ap, arith}
 use Rattle.sand_model.specs.Grid.{Grid, sites}
-use Rattle.sand_model.specs.Sand.{sum_below, flow, one_at}
-use Rattle.sand_model.proofs.SumsBelow.{sum_below_same, sum_below_le, sum_below_swap, sum_below-scale, sum_below-ones, sum_below-one_at, sum_below-zero, one_at_comm}
-use Rattle.sand_model.proofs.Flow.{flow_same, flow-scale}
+use Rattle.sand_model.specs.Sand.{sum_below, one_at}
+use Rattle.sand_model.proofs.SumsBelow.{sum_below_same, sum_below_le, sum_below_none, sum_below_swap, sum_below-scale, sum_below-ones, sum_below-one_at, one_at_comm}
 use Rattle.sand_fronts.specs.Tiling.{tiles, tile_of, place_of, on_tiles}
 use Rattle.sand_fronts.proofs.Boards.{tile_inside}
 use Rattle.sand_fronts.proofs.OnTiles.{place_below, on_each, own_place}
-
-pub sum_below_none : (n : ℕ) (f : ℕ → ℕ) → ((i : ℕ) → i < n → f i ≡ 0) → sum_below n f ≡ 0
-sum_below_none n f none = sum_below_same n f (λ i. 0) none ∙ sum_below-zero n
 
 pub sum_below_most : (n most : ℕ) (f : ℕ → ℕ) → ((i : ℕ) → i < n → f i ≤ most) → sum_below n f ≤ most * n
 sum_below_most n most f few =
     let ones = ap (λ x. most * x) (sum_below-ones n) in
     omega (arith, sum_below_le n f (λ i. most * 1) (λ i l. omega (arith, few i l)), sum_below-scale n most (λ i. 1))
-
-pub flow_none : (g : Grid) (u : ℕ → ℕ) (j : ℕ) → ((i : ℕ) → i < sites g → u i ≡ 0) → j < sites g → flow g u j ≡ 0
-flow_none g u j none l =
-    omega (arith, flow_same g u (λ i. 0 * u i) (λ i m. omega (arith, none i m)) j l, flow-scale g 0 u j)
 
 -- v of the site j at its own place, and 0 at each other
 abbrev here : Grid → (ℕ → ℕ) → ℕ → ℕ → ℕ → ℕ

@@ -3,7 +3,7 @@ use Rattle.std.proofs.Common.{ℕ, List, get_or, refl, ◌≡◌, ◌≢◌, ◌
 use Rattle.std.proofs.lemmas.Bool.Decides.{nat_tests}
 use Rattle.sand_model.specs.Grid.{Grid, sites}
 use Rattle.sand_model.specs.Sand.{one_at}
-use Rattle.sand_model.proofs.Flow.{flow_same, flow-add}
+use Rattle.sand_model.proofs.Flow.{flow_same, flow-add, flow_none}
 use Rattle.sand_tiles.specs.Places.{bit}
 use Rattle.sand_tiles.specs.Counts.{Count, counted}
 use Rattle.sand_tiles.proofs.Bits.{bit_le}
@@ -14,7 +14,6 @@ use Rattle.sand_fronts.specs.WrittenBack.{risen, AreLow, Follows}
 use Rattle.sand_fronts.proofs.Gained.{changed_each}
 use Rattle.sand_fronts.proofs.Reached.{IsTaken}
 use Rattle.sand_fronts.proofs.OnTiles.{place_below, same_site}
-use Rattle.sand_fronts.proofs.Sums.{flow_none}
 
 -- ---- heights that follow an odometer
 

@@ -61,6 +61,11 @@ pub flow-scale : (g : Grid) (c : ℕ) (u : ℕ → ℕ) (i : ℕ) → flow g (λ
 unfolding flow
 flow-scale g c u i = sum_by-scale c u (neighbours g i)
 
+-- if no site has toppled, nothing flows
+pub flow_none : (g : Grid) (u : ℕ → ℕ) (j : ℕ) → ((i : ℕ) → i < sites g → u i ≡ 0) → j < sites g → flow g u j ≡ 0
+flow_none g u j none l =
+    omega (arith, flow_same g u (λ i. 0 * u i) (λ i m. omega (arith, none i m)) j l, flow-scale g 0 u j)
+
 flow_spread : (g : Grid) (u : ℕ → ℕ) (i : ℕ) → i < sites g
     → flow g u i ≡ sum_below (sites g) (λ j. u j * occurrences (neighbours g i) j)
 unfolding flow

@@ -40,6 +40,9 @@ unfolding sum_below
 sum_below-zero zero = refl
 sum_below-zero (suc n) = let below = sum_below-zero n in omega arith
 
+pub sum_below_none : (n : ℕ) (f : ℕ → ℕ) → ((i : ℕ) → i < n → f i ≡ 0) → sum_below n f ≡ 0
+sum_below_none n f none = sum_below_same n f (λ i. 0) none ∙ sum_below-zero n
+
 pub sum_below-ones : (n : ℕ) → sum_below n (λ i. 1) ≡ n
 unfolding sum_below
 sum_below-ones zero = refl

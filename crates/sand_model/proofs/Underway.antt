@@ -3,15 +3,14 @@ use Rattle.std.proofs.Common.{ℕ, ◌≡◌, ◌+◌, ◌*◌, ◌<◌, ◌≤�
 use Rattle.std.proofs.lemmas.Bool.Decides.{nat_tests}
 use Rattle.sand_model.specs.Grid.{Grid, sites}
 use Rattle.sand_model.specs.Sand.{one_at, IsToppled, IsUnderway, IsSettled}
-use Rattle.sand_model.proofs.Flow.{flow_same, flow-add, flow-scale}
+use Rattle.sand_model.specs.Underway.{Advances}
+use Rattle.sand_model.proofs.Flow.{flow_same, flow_none, flow-add, flow-scale}
 use Rattle.sand_model.proofs.Sandpile.{least_action}
 
 pub underway_start : (g : Grid) (s u : ℕ → ℕ) → ((i : ℕ) → i < sites g → u i ≡ 0) → IsUnderway g s u s
 underway_start g s u none = record {
   toppled = record {
-    balance = λ i l.
-        let same = flow_same g u (λ j. 0 * u j) (λ j m. omega (arith, none j m)) i l in
-        omega (arith, flow-scale g 0 u i, none i l);
+    balance = λ i l. omega (arith, flow_none g u i none l, none i l);
   };
   bounded = λ w stable i l. omega (arith, none i l);
 }
@@ -46,4 +45,12 @@ underway_end g s u t done stable = record {
         record { at_most_three = λ i l. omega (arith, done.toppled.balance i l, stable i l) };
     least = done.bounded;
   };
+}
+
+-- legal topplings after legal topplings
+pub advances_on : {g : Grid} {u t v r w q : ℕ → ℕ} → Advances g u t v r → Advances g v r w q → Advances g u t w q
+advances_on first second = record {
+  underway = λ s before. second.underway s (first.underway s before);
+  weight_pays = omega (arith, first.weight_pays, second.weight_pays);
+  grains_fall = omega (arith, first.grains_fall, second.grains_fall);
 }

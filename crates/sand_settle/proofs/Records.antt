@@ -8,8 +8,8 @@ use Rattle.sand_model.specs.Piles.{PileView, IsPile, height_of}
 use Rattle.sand_model.proofs.Sandpile.{weight_after}
 use Rattle.sand_model.proofs.Heights.{sum_is_grains, sum_left}
 use Rattle.sand_model.proofs.Bounds.{topplings_bound}
-use Rattle.sand_fronts.proofs.Sums.{sum_below_none}
 use Rattle.sand_model.proofs.Underway.{underway_start, underway_end}
+use Rattle.sand_model.proofs.SumsBelow.{sum_below_none}
 use Rattle.sand_settle.specs.Settling.{SettledView, IsSettledRecord}
 use Rattle.sand_settle.proofs.OneRecord.{same_parts}
 use Rattle.sand_settle.proofs.Underway.{zero_at}

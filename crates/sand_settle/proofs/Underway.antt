@@ -4,12 +4,11 @@ use Rattle.std.proofs.lemmas.Bool.{cases_lt}
 use Rattle.std.proofs.lemmas.List.{get_or-replicate, get_or_past, length-replicate}
 use Rattle.sand_model.specs.Grid.{Grid, IsGrid, sites}
 use Rattle.sand_model.specs.Sand.{one_at, IsToppled, topplings, weight}
-use Rattle.sand_model.proofs.SumsBelow.{sum_below_both, sum_below-one_at}
+use Rattle.sand_model.proofs.SumsBelow.{sum_below_none, sum_below_both, sum_below-one_at}
 use Rattle.sand_model.proofs.Sandpile.{weight_after, laplacian_sum}
 use Rattle.sand_model.proofs.Heights.{sum_is_grains}
 use Rattle.sand_model.proofs.Bounds.{weight_bound}
 use Rattle.sand_model.proofs.Underway.{underway_step}
-use Rattle.sand_fronts.proofs.Sums.{sum_below_none}
 use Rattle.sand_model.specs.Underway.{Advances}
 use Rattle.sand_model.specs.Piles.{most_grains}
 
@@ -17,13 +16,6 @@ pub topplings_at : (g : Grid) (i k : ℕ) → i < sites g → topplings g (λ j.
 topplings_at g i k l = sum_below-one_at (sites g) i (λ j. k) l
 
 -- ---- from one moment to a later one
-
-pub advance_more : {g : Grid} {u t v r w q : ℕ → ℕ} → Advances g u t v r → Advances g v r w q → Advances g u t w q
-advance_more first second = record {
-  underway = λ s before. second.underway s (first.underway s before);
-  weight_pays = omega (arith, first.weight_pays, second.weight_pays);
-  grains_fall = omega (arith, first.grains_fall, second.grains_fall);
-}
 
 -- one site topples k times
 pub advance_turn : (g : Grid) (v r w q : ℕ → ℕ) (i k : ℕ) → i < sites g

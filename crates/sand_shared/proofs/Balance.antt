@@ -1,12 +1,12 @@
 -- All grains of a start and its drops; balance and the bound on topplings after steps that topple nothing.
-use Rattle.std.proofs.Common.{◌≡◌, ℕ, ◌+◌, ◌*◌, ◌<◌, ◌≤◌, List, All, length, sum, arith}
+use Rattle.std.proofs.Common.{◌≡◌, ℕ, ◌+◌, ◌<◌, ◌≤◌, List, All, length, sum, arith}
 use Rattle.sand_model.specs.Grid.{Grid, sites}
-use Rattle.sand_model.specs.Sand.{flow, grains, occurrences, IsToppled, Stabilises}
+use Rattle.sand_model.specs.Sand.{grains, occurrences, IsToppled, Stabilises}
 use Rattle.sand_model.specs.Piles.{PileView, IsPile, height_of}
 use Rattle.sand_model.proofs.SumsBelow.{sum_below-add}
 use Rattle.sand_model.proofs.Occurrences.{sum_below-occurrences}
 use Rattle.sand_model.proofs.Heights.{sum_is_grains}
-use Rattle.sand_model.proofs.Flow.{flow_same, flow-scale}
+use Rattle.sand_model.proofs.Flow.{flow_same}
 
 pub grains_in_all : (start : PileView) (drops : List ℕ) → IsPile start → All (λ i. i < sites start.grid) drops
     → grains start.grid (λ i. height_of start i + occurrences drops i) ≡ sum start.heights + length drops
@@ -33,8 +33,3 @@ pub stabilises_fewer : (g : Grid) (s s' w : ℕ → ℕ) → ((i : ℕ) → i < 
 stabilises_fewer g s s' w fewer stab =
     record { at_most_three = λ i l. let a = stab.at_most_three i l in let b = fewer i l in omega arith }
 
--- if no site has toppled, nothing flows
-pub flow_none : (g : Grid) (u : ℕ → ℕ) (i : ℕ) → i < sites g → ((j : ℕ) → j < sites g → u j ≡ 0) → flow g u i ≡ 0
-flow_none g u i l none =
-    let a = flow_same g u (λ j. 0 * u j) (λ j m. let z = none j m in omega arith) i l in
-    let b = flow-scale g 0 u i in omega arith

@@ -7,12 +7,12 @@ use Rattle.std.proofs.lemmas.List.Elements.{All-cons, All-nil}
 use Rattle.std.proofs.Math.Nat.{mul-le-mul_right}
 use Rattle.sand_model.specs.Grid.{Grid, IsGrid, sites}
 use Rattle.sand_model.specs.Lists.{one_if}
+use Rattle.sand_model.proofs.Flow.{flow_none}
 use Rattle.sand_shared.specs.declared.view.Receipt.{Receipt}
 use Rattle.sand_shared.specs.declared.view.Terms.{Terms}
 use Rattle.sand_shared.specs.OpenPile.{grid_of_terms, holds_site, toppled, IsLawfulPass, IsLawful}
 use Rattle.sand_shared.specs.Events.{begin, unopened, zeros, first_pass, after}
 use Rattle.sand_shared.proofs.GrainsAtSite.{toppled_from}
-use Rattle.sand_shared.proofs.Balance.{flow_none}
 
 get-zeros : (n k : ℕ) → get_or (zeros n) k 0 ≡ 0
 get-zeros zero k = refl
@@ -49,7 +49,7 @@ module _ (t : Terms) where
   begun = record {
     balance = record {
       balance = λ i l. (let a = none_yet i in
-          let b = flow_none (grid_of_terms t) (toppled (after t (unopened t) begin)) i l (λ j _. none_yet j) in
+          let b = flow_none (grid_of_terms t) (toppled (after t (unopened t) begin)) i (λ j _. none_yet j) l in
           omega arith);
     };
     needed = λ w stab i l. (let a = none_yet i in omega arith);

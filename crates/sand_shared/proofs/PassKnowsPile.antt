@@ -7,7 +7,7 @@ use Rattle.sand_model.specs.Grid.{sites, neighbours}
 use Rattle.sand_model.specs.Sand.{occurrences, flow, grain_weight, IsToppled}
 use Rattle.sand_model.specs.Piles.{height_of}
 use Rattle.sand_model.proofs.SumsBelow.{sum_below_same, sum_below_le}
-use Rattle.sand_model.proofs.Flow.{flow_same}
+use Rattle.sand_model.proofs.Flow.{flow_same, flow_none}
 use Rattle.sand_model.proofs.Sandpile.{weight_after}
 use Rattle.sand_model.proofs.Bounds.{topplings_bound}
 use Rattle.sand_shared.specs.declared.view.View.{View}
@@ -19,7 +19,7 @@ use Rattle.sand_shared.specs.Running.{Stands, Happened}
 use Rattle.sand_shared.specs.Seats.{HasAll}
 use Rattle.sand_shared.specs.Sweeps.{start_and_receipts, LeavesAtMost, IsSparing}
 use Rattle.sand_shared.proofs.SumsOverPasses.{sum_by_two, sum_by_only, sum_by_none, sum_by_plus, sum_by_beside, sum_by_swap}
-use Rattle.sand_shared.proofs.Balance.{flow_none, stabilises_fewer}
+use Rattle.sand_shared.proofs.Balance.{stabilises_fewer}
 use Rattle.sand_shared.proofs.OneHolder.{toppled_outside, others_without, own_toppled}
 use Rattle.sand_shared.proofs.SumOfCounts.{sum_counts}
 use Rattle.sand_shared.proofs.Lawfulness.{event_keeps, few_grains}
@@ -93,8 +93,8 @@ module _ (t : Terms) (p : OpenPile) (r : IsLawful t p) (a : ℕ) (there : a < le
           (λ (ne : b ≡ a → ⊥).
           let hand = (r.passes b nobody lb).hand i l in
           let none = ap (λ rs. receipts_for rs i) (no_receipts b lb ne) in
-          let still = flow_none (grid_of_terms t) (toppled_by (pass_at p b)) i l
-          (λ j lj. toppled_outside (pass_at p b) j (others_without t p r a j there lj (all.all_sites j lj) b lb ne)) in
+          let still = flow_none (grid_of_terms t) (toppled_by (pass_at p b)) i
+          (λ j lj. toppled_outside (pass_at p b) j (others_without t p r a j there lj (all.all_sites j lj) b lb ne)) l in
           omega arith)
           (cases_eq b a));
     }

@@ -2,7 +2,7 @@ use Rattle.std.proofs.Common.{ltb, ◌*◌, sym, refl, ap, arith}
 use Rattle.std.proofs.lemmas.Bool.{le-ltb}
 use Rattle.sand_model.specs.Grid.{sites, missing}
 use Rattle.sand_model.specs.Lists.{one_if}
-use Rattle.sand_fronts.proofs.Sums.{sum_below_none}
+use Rattle.sand_model.proofs.SumsBelow.{sum_below_none}
 use Rattle.sand_fronts.proofs.tiled_pile.calm.Goals as goal
 
 pub returns : goal.returns

@@ -3,10 +3,10 @@ use Rattle.std.proofs.lemmas.List.{nil_from_length}
 use Rattle.sand_model.specs.Grid.{sites}
 use Rattle.sand_model.specs.Sand.{topplings, weight}
 use Rattle.sand_model.proofs.Lists.{lists_of}
-use Rattle.sand_model.proofs.Underway.{underway_start, underway_end}
+use Rattle.sand_model.proofs.Underway.{underway_start, underway_end, advances_on}
 use Rattle.sand_model.specs.IndexLists.{ListView}
 use Rattle.sand_settle.proofs.SiteLists.{all_low}
-use Rattle.sand_settle.proofs.Underway.{advance_more, sum_falls, few_at_first, zero_at}
+use Rattle.sand_settle.proofs.Underway.{sum_falls, few_at_first, zero_at}
 use Rattle.sand_settle.proofs.queue.topple_all.Goals.{After-fill}
 use Rattle.sand_settle.proofs.queue.topple_all.Goals as goal
 
@@ -46,7 +46,7 @@ generations-preserved c = record {
   heights_each = omega (arith, c.generations.invariant.heights_each, c.topple_generation.auto.heights);
   counts_each = omega (arith, c.generations.invariant.counts_each, c.topple_generation.auto.counts);
   spent = omega (arith, c.generations.invariant.spent, c.topple_generation.ensures.each_topples);
-  advances = advance_more c.generations.invariant.advances c.topple_generation.ensures.advances;
+  advances = advances_on c.generations.invariant.advances c.topple_generation.ensures.advances;
   waiting = rw (ap (λ (l : ListView). l.items) c.swap.ensures.x_after) c.topple_generation.ensures.waiting;
   generation_room = omega (
     arith,

@@ -9,9 +9,10 @@ use Rattle.sand_model.specs.Lists.{Lists}
 use Rattle.sand_model.proofs.Lists.{front_below, lists_length, lists_of}
 use Rattle.sand_model.proofs.IndexLists.{waiting_behind}
 use Rattle.sand_model.specs.IndexLists.{ListView}
+use Rattle.sand_model.proofs.Underway.{advances_on}
 use Rattle.sand_settle.specs.SiteLists.{may_topple}
 use Rattle.sand_settle.proofs.SiteLists.{front_is_high, others_wait, turn_of}
-use Rattle.sand_settle.proofs.Underway.{advance_more, advance_turn, sum_falls}
+use Rattle.sand_settle.proofs.Underway.{advance_turn, sum_falls}
 use Rattle.sand_settle.proofs.queue.topple_generation.Goals.{After-item-site}
 use Rattle.sand_settle.proofs.queue.topple_generation.Goals as goal
 
@@ -112,7 +113,7 @@ loop-position-preserved c =
     record {
       heights_each = c.spread.auto.heights ∙ each;
       counts_each = length-set u i (get_or u i 0 + k) ∙ c.loop-position.invariant.counts_each;
-      advances = advance_more c.loop-position.invariant.advances more.0;
+      advances = advances_on c.loop-position.invariant.advances more.0;
       each_topples = omega (arith, more.1, c.loop-position.invariant.each_topples);
       waiting = lists_of _ _ _ _ each (waiting_behind c.spread.ensures.joins
           (drop (c.loop-position.position + 1) c.args.generation.now.items) (lists_of _ _ _ _ (sym each) others));
