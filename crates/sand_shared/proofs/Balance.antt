@@ -32,4 +32,3 @@ pub stabilises_fewer : (g : Grid) (s s' w : ℕ → ℕ) → ((i : ℕ) → i < 
     → Stabilises g s w
 stabilises_fewer g s s' w fewer stab =
     record { at_most_three = λ i l. let a = stab.at_most_three i l in let b = fewer i l in omega arith }
-

@@ -17,14 +17,17 @@ version_written left held held' written = (keeps left, record { text = version_t
 pub version_cut : (left held held' : Option (List ℕ)) (fault : DeskFault)
     → ((sent : ℕ) × (fault ≡ Write sent) × (sent ≤ length version_text) × Appends held held' (take sent version_text))
     → Keeps left left × IsShownInPart (Some version_text) held held' fault
-version_cut left held held' fault cut = (keeps left, record {
-  text = version_text;
-  same = refl;
-  sent = cut.0;
-  told = cut.1;
-  within = cut.2;
-  written = cut.3;
-})
+version_cut left held held' fault cut = (
+  keeps left,
+  record {
+    text = version_text;
+    same = refl;
+    sent = cut.0;
+    told = cut.1;
+    within = cut.2;
+    written = cut.3;
+  },
+)
 
 -- a failed writer is no fault of the words, and no call for help
 pub write_tells : (words : List (List ℕ)) (fault : DeskFault) (sent : ℕ) → fault ≡ Write sent
