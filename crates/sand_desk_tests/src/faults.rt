@@ -36,43 +36,46 @@ fn a_line_that_does_not_fit(rt: HostRuntime) {
     assert!(rt; writer.taken.as_slice() == b"fault 2".as_slice());
 }
 
+// The faults of a command but misuse, their numbers, and what they say.
+const SENTENCES: [(DeskFault, u32, &str); 16] = [
+    (DeskFault::Side, 1, "width or height is outside 1 to 256"),
+    (DeskFault::Length, 2, "wrong number of heights"),
+    (DeskFault::TooManyGrains, 3, "too many grains"),
+    (DeskFault::Memory, 4, "out of memory"),
+    (
+        DeskFault::Full,
+        6,
+        "one more drop would exceed the grain limit",
+    ),
+    (DeskFault::Unstable, 7, "a height is over 3"),
+    (DeskFault::NotRecurrent, 8, "there is a forbidden set"),
+    (DeskFault::Shapes, 9, "the two piles have different shapes"),
+    (
+        DeskFault::Taken,
+        17,
+        "an epoch's place in the album is already set",
+    ),
+    (
+        DeskFault::Text(7),
+        18,
+        "unexpected byte or end of input, at byte 7",
+    ),
+    (
+        DeskFault::TooLarge(7),
+        19,
+        "the number at byte 7 is over the grain limit",
+    ),
+    (DeskFault::Read, 20, "the reader failed"),
+    (DeskFault::Write(7), 21, "the writer failed after 7 bytes"),
+    (DeskFault::TooLong, 22, "too much input"),
+    (DeskFault::Narrow, 24, "a cylinder is less than 3 wide"),
+    (DeskFault::NoSite(7), 25, "drop 7 is outside the grid"),
+];
+
 // `sandpile explain` says more about each fault (cases/explain.txt).
 #[test]
 fn what_a_fault_says(rt: HostRuntime) -> Result<(), Fail> {
-    for (fault, number, expected) in [
-        (DeskFault::Side, 1, "width or height is outside 1 to 256"),
-        (DeskFault::Length, 2, "wrong number of heights"),
-        (DeskFault::TooManyGrains, 3, "too many grains"),
-        (DeskFault::Memory, 4, "out of memory"),
-        (
-            DeskFault::Full,
-            6,
-            "one more drop would exceed the grain limit",
-        ),
-        (DeskFault::Unstable, 7, "a height is over 3"),
-        (DeskFault::NotRecurrent, 8, "there is a forbidden set"),
-        (DeskFault::Shapes, 9, "the two piles have different shapes"),
-        (
-            DeskFault::Taken,
-            17,
-            "an epoch's place in the album is already set",
-        ),
-        (
-            DeskFault::Text(7),
-            18,
-            "unexpected byte or end of input, at byte 7",
-        ),
-        (
-            DeskFault::TooLarge(7),
-            19,
-            "the number at byte 7 is over the grain limit",
-        ),
-        (DeskFault::Read, 20, "the reader failed"),
-        (DeskFault::Write(7), 21, "the writer failed after 7 bytes"),
-        (DeskFault::TooLong, 22, "too much input"),
-        (DeskFault::Narrow, 24, "a cylinder is less than 3 wide"),
-        (DeskFault::NoSite(7), 25, "drop 7 is outside the grid"),
-    ] {
+    for (fault, number, expected) in SENTENCES {
         assert_eq!(rt; fault.number(), number);
         let sentence = format!(in rt.alloc(); "{fault}")?;
         assert_eq!(rt; sentence.as_str(), expected);

@@ -226,6 +226,29 @@ const SETTLE_SWEPT: Trial = Trial {
     ..CLOSE
 };
 
+// The second site topples in place, and so the first one in plain memory.
+const RECORD_NOW: Trial = Trial {
+    name: "SharedPile::record_now",
+    start: Start {
+        heights: &[3, 3],
+        quota: 1,
+        ..TWO_SITES
+    },
+    before: &[(DropRest(0, 1), Done), (Sweep(0), Number(1))],
+    unchanged: &[
+        (Counts(0), Has(0, 1, 1)),
+        (Toppled(0, 0), Number(0)),
+        (Toppled(0, 1), Number(1)),
+    ],
+    ending: Ending::RecordNow,
+    left: Left {
+        history: &[1],
+        heights: &[0, 1],
+        ..SETTLED
+    },
+    ..CLOSE
+};
+
 // Two sites of seven grains.
 const SETTLE_REST: Trial = Trial {
     name: "SharedPile::settle_rest",
@@ -301,6 +324,7 @@ fn calls_on_a_shared_pile_report_out_of_memory(rt: HostRuntime) -> Result<(), Fa
         CLOSE,
         CLOSE_SWEPT,
         SETTLE_SWEPT,
+        RECORD_NOW,
         SETTLE_REST,
     ] {
         each_refused_on(

@@ -14,11 +14,9 @@ use sand_group::GroupFault;
 use sand_lab::{Album, LabFault, Open, Report, Wish};
 use sand_model::{GRAIN_LIMIT, Pile, Shape, topple};
 use sand_settle::{OneFault, OnePile, SettleFault, Settled, settle};
-use sand_shared::{
-    BarePass, CloseFault, JoinFault, SharedFault, SharedPile, SiteCounts, SplitFault,
-};
+use sand_shared::{BarePass, CloseFault, JoinFault, SharedFault, SharedPile, SplitFault};
 use sand_testing::pile_with_passes::Call::{
-    Counts, DropAt, IntoBare, IsWhole, Rows, Sweep, Tally, Toppled,
+    Counts, DropAll, DropAt, IntoBare, IsWhole, Rows, Sweep, Tally, Toppled,
 };
 use sand_testing::pile_with_passes::Returned::{Between, Done, Fault, Has, Is, Number};
 use sand_testing::pile_with_passes::{PileWithPasses, Start, is_there};
@@ -166,15 +164,17 @@ fn passes_take_no_memory(rt: HostRuntime) -> Result<(), Fail> {
     let start = Start {
         sides: (1, 2),
         heights: &[4, 4],
-        quota: 1,
+        quota: 3,
     };
     let calls = [
         (IsWhole(0), Is(true)),
         (DropAt(0, 1), Number(0)),
+        (DropAll(0, &[1, 1, 1]), Fault(13)),
+        (DropAll(0, &[0, 1]), Number(1)),
         (DropAt(0, 1), Fault(13)),
-        (Tally(0), Number(1)),
+        (Tally(0), Number(3)),
         (Sweep(0), Number(2)),
-        (Counts(0), Has(0, 1, 1)),
+        (Counts(0), Has(0, 3, 3)),
         (Toppled(0, 0), Number(1)),
         (Toppled(0, 1), Number(1)),
         (Rows(0), Between(0, 2)),
@@ -220,25 +220,6 @@ fn a_record_is_completed_without_memory(rt: HostRuntime) -> Result<(), Fail> {
             Err(fault.into())
         }
     }
-}
-
-#[test]
-fn lists_of_drops_take_no_memory(rt: HostRuntime) -> Result<(), Fail> {
-    let alloc = rt.alloc();
-    let start = open_pile(alloc, 1, 2, &[0, 0])?;
-    assert!(rt; start.shape().sites() == 2);
-    let mut counts = SiteCounts::new(alloc, start.shape())?;
-    let made = SharedPile::new(alloc, &start, 2);
-    drop(start);
-    let (pile, mut pass) = made?;
-    refuse(alloc, 0);
-    let past = pile.drop_all(&mut pass, &[1, 1, 1], &mut counts);
-    let dropped = pile.drop_all(&mut pass, &[0, 1], &mut counts);
-    assert!(rt; past.is_err_and(|fault| fault.number() == 13));
-    assert!(rt; dropped.is_ok_and(|number| number == 0));
-    assert!(rt; !was_refused(alloc));
-    drop((pile, pass, counts));
-    Ok(())
 }
 
 #[test]

@@ -48,6 +48,26 @@ pub fn print_refused<R: Print + Abort>(
     Ok(())
 }
 
+// Whether a call did without the request that was refused, which it may if that was for a thread. If not, its fault must
+// be out of memory.
+fn did_without<R: Print + Abort>(
+    rt: &R,
+    name: &str,
+    spares: Spares,
+    number: u32,
+    outcome: Result<bool, u32>,
+) -> bool {
+    if let Err(fault) = outcome {
+        assert_eq!(rt; fault, MEMORY, "{name} at request {number}");
+        return false;
+    }
+    assert!(rt;
+        spares == Spares::Thread,
+        "{name} did without request {number}"
+    );
+    true
+}
+
 /// Tries a call with its first allocation refused, then its second, and so on until none is refused. Each time it is
 /// made on a new value. It returns whether all is right, also that the value was unchanged before it, or the number of
 /// its fault; then it is repeated on the same value, with all its memory.
@@ -83,16 +103,8 @@ where
             assert!(rt; outcome.is_ok(), "{name} was refused nothing");
             return print_refused(rt, alloc, name, number - 1, spared);
         }
-        match outcome {
-            Err(fault) => assert_eq!(rt; fault, MEMORY, "{name} at request {number}"),
-            Ok(_) => {
-                assert!(rt;
-                    spares == Spares::Thread,
-                    "{name} did without request {number}"
-                );
-                spared = spared.saturating_add(1);
-            }
-        }
+        let is_spared = did_without(rt, name, spares, number, outcome);
+        spared = spared.saturating_add(u32::from(is_spared));
     }
     Err("a call that makes requests without end".into())
 }
