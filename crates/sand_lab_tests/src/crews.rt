@@ -105,8 +105,7 @@ fn gathered(
 
 // Runs 2^depth threads, each with its part of the pass.
 fn crew<R: Threads + Sync>(
-    rt: &R,
-    alloc: Global,
+    rt: (&R, Global),
     start: &Pile,
     pile: &SharedPile,
     meeting: &Meeting,
@@ -117,21 +116,22 @@ fn crew<R: Threads + Sync>(
     requires pass { IsPassOf pile.now pass }
     ensures { IfSome result (λ p. IsPassOf pile.now p) }
 {
+    let (threads, alloc) = rt;
     if depth == 0 {
         return take_part(alloc, start, pile, meeting, pass);
     }
     let below = depth - 1;
     let half = half_of(alloc, pile, &mut pass)?;
     let (one, other) = join(
-        rt,
+        threads,
         move || -> Option<Pass>
             requires { IsSync R.row × (pile.now.terms.start ≡ start.now) × IsPassOf pile.now pass }
             ensures { IfSome result (λ p. IsPassOf pile.entry.now p) }
-        { crew(rt, alloc, start, pile, meeting, pass, below) },
+        { crew(rt, start, pile, meeting, pass, below) },
         move || -> Option<Pass>
             requires { IsSync R.row × (pile.now.terms.start ≡ start.now) × IsPassOf pile.now half }
             ensures { IfSome result (λ p. IsPassOf pile.entry.now p) }
-        { crew(rt, alloc, start, pile, meeting, half, below) },
+        { crew(rt, start, pile, meeting, half, below) },
     );
     gathered(alloc, pile, one, other)
 }
@@ -148,7 +148,7 @@ const ODOMETER: [u64; 24] = [
 fn closed_by_eight<R: Threads + Sync>(rt: &R, alloc: Global, start: &Pile) -> Option<Record> {
     let (pile, pass) = SharedPile::new(alloc, start, 32).ok()?;
     let meeting = Meeting::new();
-    match crew(rt, alloc, start, &pile, &meeting, pass, 3) {
+    match crew((rt, alloc), start, &pile, &meeting, pass, 3) {
         Some(pass) => pile.close(alloc, pass).ok(),
         None => {
             drop(pile);
