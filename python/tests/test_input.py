@@ -93,6 +93,8 @@ def fault(mebibytes, call, **arguments):
         call(**arguments)
     except MemoryError as error:
         print(getattr(error, "number", error))
+    finally:
+        resource.setrlimit(resource.RLIMIT_AS, (-1, -1))
 
 run, zero = sandpile.Drive([[0, 0]]), np.uint8(0)
 fault(256, sandpile.settle, pile=np.broadcast_to(zero, (10**4, 64, 64)))

@@ -1,8 +1,8 @@
 //! What is said about the sides, the heights and the grains of a rejected pile.
 
-use crate::outline::{Defect, Outline, grid_without_size};
+use crate::outline::{Defect, Number, Outline, grid_without_size};
 use crate::pushing::{push_grouped, push_heights, push_place, push_sides};
-use crate::refused::Refused;
+use crate::refused::{Culprit, Refused};
 use sand_group::{Burned, burn};
 use sand_model::{CYLINDER_WIDTH, GRAIN_LIMIT, SIDE_LIMIT};
 use sand_text::read_two;
@@ -20,15 +20,13 @@ fn push_size_hint(text: &mut String, input: &[u8]) -> Result<(), AllocError> {
 }
 
 pub(crate) fn push_side(text: &mut String, refused: &Refused<'_>) -> Result<(), AllocError> {
-    let Some(found) = refused.culprit(Defect::Side) else {
+    let Some(Culprit { name, pile }) = refused.culprit(Defect::Side) else {
         return Ok(());
     };
-    let Some((side, number)) = found.pile.bad_side() else {
+    let Some((side, Number { start, value })) = pile.bad_side() else {
         return Ok(());
     };
-    push_place(text, refused.input, number.start)?;
-    let name = found.name;
-    let value = number.value;
+    push_place(text, refused.input, start)?;
     write!(
         text,
         "the {side} of {name} is {value}, but must be from 1 to {SIDE_LIMIT}\n"
@@ -37,15 +35,14 @@ pub(crate) fn push_side(text: &mut String, refused: &Refused<'_>) -> Result<(), 
 }
 
 pub(crate) fn push_narrow(text: &mut String, refused: &Refused<'_>) -> Result<(), AllocError> {
-    let Some(found) = refused.culprit(Defect::Narrow) else {
+    let Some(Culprit { name, pile }) = refused.culprit(Defect::Narrow) else {
         return Ok(());
     };
-    push_place(text, refused.input, found.pile.width.start)?;
-    let name = found.name;
-    let width = found.pile.width.value;
+    let Number { start, value } = pile.width;
+    push_place(text, refused.input, start)?;
     write!(
         text,
-        "{name} is {width} wide, but a cylinder must be at least {CYLINDER_WIDTH} wide\n"
+        "{name} is {value} wide, but a cylinder must be at least {CYLINDER_WIDTH} wide\n"
     )
 }
 
@@ -109,15 +106,13 @@ pub(crate) fn push_grains(text: &mut String, refused: &Refused<'_>) -> Result<()
 }
 
 pub(crate) fn push_unstable(text: &mut String, refused: &Refused<'_>) -> Result<(), AllocError> {
-    let Some(found) = refused.culprit(Defect::Unstable) else {
+    let Some(Culprit { name, pile }) = refused.culprit(Defect::Unstable) else {
         return Ok(());
     };
-    let Some(height) = found.pile.unstable() else {
+    let Some(Number { start, value }) = pile.unstable() else {
         return Ok(());
     };
-    push_place(text, refused.input, height.start)?;
-    let name = found.name;
-    let value = height.value;
+    push_place(text, refused.input, start)?;
     write!(
         text,
         "a site of {name} has {value} grains; at most 3 are allowed\n"
@@ -164,11 +159,10 @@ pub(crate) fn push_no_site(text: &mut String, refused: &Refused<'_>) -> Result<(
     let Some(pile) = refused.first() else {
         return Ok(());
     };
-    let Some(site) = pile.drops().nth(index) else {
+    let Some(Number { start, value }) = pile.drops().nth(index) else {
         return Ok(());
     };
-    push_place(text, refused.input, site.start)?;
-    let value = site.value;
+    push_place(text, refused.input, start)?;
     write!(
         text,
         "drop {index}, counted from 0, is at site {value}, but the grid, "

@@ -35,21 +35,13 @@ impl<'a> Refused<'a> {
     /// The pile with a defect. If there are two, it is the second unless it is the first.
     pub(crate) fn culprit(&self, defect: Defect) -> Option<Culprit<'a>> {
         let first = self.first()?;
-        if !self.reads_two() {
-            Some(Culprit {
-                name: "the pile",
-                pile: first,
-            })
+        let (name, pile) = if !self.reads_two() {
+            ("the pile", first)
         } else if first.has(defect) {
-            Some(Culprit {
-                name: "the first pile",
-                pile: first,
-            })
+            ("the first pile", first)
         } else {
-            Some(Culprit {
-                name: "the second pile",
-                pile: first.next()?,
-            })
-        }
+            ("the second pile", first.next()?)
+        };
+        Some(Culprit { name, pile })
     }
 }

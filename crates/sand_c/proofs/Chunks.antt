@@ -7,7 +7,7 @@ use Rattle.std.proofs.Math.Nat.{mul-le-mul_right}
 use Rattle.std.proofs.lemmas.Bool.{cases_lt, and_parts, and_left, and_right, leb-true, lt-leb}
 use Rattle.std.proofs.lemmas.List.{length-append, length-drop, length-take-le, take-append-le, drop-append-le, drop_at, take_all, get_or_push, get_or_append_left}
 use Rattle.sand_model.specs.Piles.{most_grains}
-use Rattle.sand_c.specs.SettlingAll.{are_within}
+use Rattle.sand_c.specs.Settling.{are_within}
 
 has_room : (n j k : ℕ) → j < k → (j + 1) * n ≤ k * n
 has_room n j k lt = mul-le-mul_right n (omega arith)

@@ -1,15 +1,19 @@
--- The lengths of the lists that burning finds.
-use Rattle.std.proofs.Common.{◌≡◌, ◌<◌, ◌≤◌, ◌+◌, ◌-◌, ℕ, zero, suc, List, length, refl, sym, ◌∙◌, arith, inl, inr, slice_index}
+-- The sites that burning finds, and how many there are.
+use Rattle.std.proofs.Common.{◌≡◌, ◌<◌, ◌≤◌, ◌+◌, ◌-◌, ℕ, Bool, zero, suc, List, length, refl, sym, subst, ◌∙◌, arith, inl, inr, slice_index}
+use Rattle.std.specs.Prelude.{◌↔◌, Result, Ok, Err}
 use Rattle.std.specs.List.Sorted.{IsStrictlyIncreasing}
 use Rattle.std.proofs.lemmas.Bool.{cases_lt}
+use Rattle.std.proofs.lemmas.List.{take_all}
 use Rattle.sand_model.specs.Grid.{Grid, sites}
-use Rattle.sand_model.specs.Sand.{sum_below, occurrences}
+use Rattle.sand_model.specs.Piles.{PileView, height_of}
+use Rattle.sand_model.specs.Sand.{IsStable, sum_below, occurrences}
 use Rattle.sand_model.proofs.Occurrences.{sum_below-occurrences}
-use Rattle.sand_group.specs.declared.burning.Burned.{Burned}
-use Rattle.sand_group.specs.declared.burning.Burned.TheVariants.{Recurrent, Forbidden}
-use Rattle.sand_group.specs.Burned.{IsBurned}
-use Rattle.sand_c.specs.Burning.{IsFound, sites_in, burns_out}
+use Rattle.sand_group.specs.declared.faults.GroupFault.{GroupFault}
+use Rattle.sand_group.specs.declared.faults.GroupFault.TheVariants as group
 use Rattle.sand_group.specs.Recurrence.{IsBurningOrder, IsGreatestForbidden}
+use Rattle.sand_group.proofs.WhyRefused.{stable}
+use Rattle.sand_c.specs.declared.faults.Fault.{Fault}
+use Rattle.sand_c.specs.Burning.{IsFound, IsBurning}
 
 ones : (n : ℕ) (f : ℕ → ℕ) → ((i : ℕ) → i < n → f i ≡ 1) → sum_below n f ≡ n
 unfolding sum_below
@@ -28,12 +32,12 @@ rises xs up (suc k) lt =
     rw one (omega arith)
 
 -- a burning order has as many sites as the grid
-order_fits : (g : Grid) (s : ℕ → ℕ) (order : List ℕ) → IsBurningOrder g s order → length order ≡ sites g
+pub order_fits : (g : Grid) (s : ℕ → ℕ) (order : List ℕ) → IsBurningOrder g s order → length order ≡ sites g
 order_fits g s order is =
     sym (sum_below-occurrences (sites g) order is.only_sites) ∙ ones (sites g) (occurrences order) is.each_once
 
 -- a forbidden set has at most as many
-set_fits : (g : Grid) (s : ℕ → ℕ) (set : List ℕ) → IsGreatestForbidden g s set → length set ≤ sites g
+pub set_fits : (g : Grid) (s : ℕ → ℕ) (set : List ℕ) → IsGreatestForbidden g s set → length set ≤ sites g
 set_fits g s set is = elim (cases_lt 0 (length set)) [
   | inl some ↦
       let n = length set in
@@ -43,11 +47,15 @@ set_fits g s set is = elim (cases_lt 0 (length set)) [
   | inr none ↦ omega arith
 ]
 
-pub fits : (g : Grid) (s : ℕ → ℕ) (burned : Burned) → IsBurned g s burned → length (sites_in burned) ≤ sites g
-fits g s (Recurrent order) is = let all = order_fits g s order.items is.1 in omega arith
-fits g s (Forbidden set) is = set_fits g s set.items is
-
-pub found : (g : Grid) (s : ℕ → ℕ) (burned : Burned) → IsBurned g s burned
-    → IsFound g s (burns_out burned) (sites_in burned)
-found g s (Recurrent order) is = is
-found g s (Forbidden set) is = is
+-- burning a pile found these sites
+pub burning : {A : Type 0} (meaning : Result PileView Fault) (p : PileView) (answer : Result A GroupFault) (found : A)
+    (xs : List ℕ) (all : Bool) → meaning ≡ Ok p → answer ≡ Ok found
+    → ((answer ≡ Err group.Unstable) ↔ (IsStable p.grid (height_of p) → ⊥)) → IsFound p.grid (height_of p) all xs
+    → length xs ≤ sites p.grid → IsBurning meaning xs (length xs) all
+burning meaning p answer found xs all meant is unstable its fits = record {
+  pile = p;
+  meant = meant;
+  stable = stable p.grid (height_of p) (λ high. let refused = unstable.1 high in cc);
+  bound = fits;
+  found = subst (IsFound p.grid (height_of p) all) (sym (take_all (length xs) xs (omega arith))) its;
+}

@@ -7,8 +7,8 @@ use Rattle.std.proofs.lemmas.List.{length_push}
 use Rattle.sand_model.specs.Grid.{Grid, sites}
 use Rattle.sand_settle.specs.Settling.{SettledView, IsSettledRecord}
 use Rattle.sand_settle.proofs.Records.{same_record}
-use Rattle.sand_c.specs.declared.settling_all.SettledPiles.{SettledPiles}
-use Rattle.sand_c.specs.SettlingAll.{AreRecords}
+use Rattle.sand_c.specs.declared.settling.SettledPiles.{SettledPiles}
+use Rattle.sand_c.specs.Settling.{AreRecords}
 use Rattle.sand_c.proofs.Chunks.{longer, chunk_before, chunk_last, number_before, number_last}
 
 -- a settled pile was appended

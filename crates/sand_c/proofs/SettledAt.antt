@@ -9,10 +9,9 @@ use Rattle.sand_model.specs.declared.faults.ShapeFault.TheVariants.{Side, Narrow
 use Rattle.sand_model.specs.Grid.{Grid, sites}
 use Rattle.sand_model.specs.Piles.{most_grains}
 use Rattle.sand_c.specs.declared.arguments.Sides.{Sides}
-use Rattle.sand_c.specs.declared.settling_all.SettledPiles.{SettledPiles}
+use Rattle.sand_c.specs.declared.settling.SettledPiles.{SettledPiles}
 use Rattle.sand_c.specs.Arguments.{edge_of, grid_of, shaped}
-use Rattle.sand_c.specs.Settling.{settling_of}
-use Rattle.sand_c.specs.SettlingAll.{are_within, IsSettlingAt, AreRecords}
+use Rattle.sand_c.specs.Settling.{settling_of, are_within, IsSettlingAt, AreRecords}
 use Rattle.sand_c.proofs.Chunks.{has_n, each_within}
 
 -- a grid has the sides that it was made of

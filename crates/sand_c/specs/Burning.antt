@@ -1,32 +1,16 @@
 -- What `sandpile_burn` does.
-use Rattle.std.specs.Prelude.{ℕ, ◌≡◌, ◌⊎◌, ◌≤◌, Bool, true, false, List, length, take, Result, Ok, Err}
+use Rattle.std.specs.Prelude.{ℕ, ◌≡◌, ◌⊎◌, ◌≤◌, Bool, true, false, List, take, Result, Ok, Err}
 use Rattle.sand_model.specs.Grid.{Grid, sites}
 use Rattle.sand_model.specs.Piles.{PileView, height_of}
 use Rattle.sand_model.specs.Sand.{IsStable}
-use Rattle.sand_group.specs.declared.burning.Burned.{Burned}
-use Rattle.sand_group.specs.declared.burning.Burned.TheVariants.{Recurrent, Forbidden}
 use Rattle.sand_group.specs.Recurrence.{IsRecurrent, IsBurningOrder, IsGreatestForbidden}
-use Rattle.sand_c.specs.declared.arguments.Sides.{Sides}
 use Rattle.sand_c.specs.declared.faults.Fault.{Fault}
 use Rattle.sand_c.specs.declared.faults.Fault.TheVariants.{Memory, Unstable}
-use Rattle.sand_c.specs.Arguments.{pile_with}
-
-abbrev pub burning_of : Sides → List ℕ → List ℕ → Result PileView Fault
-burning_of s heights found = pile_with s heights (length found)
 
 -- these sites are a burning order of a recurrent pile, or the greatest forbidden set of any other
 abbrev pub IsFound : Grid → (ℕ → ℕ) → Bool → List ℕ → Type 0
 IsFound g s true found = IsRecurrent g s × IsBurningOrder g s found
 IsFound g s false found = IsGreatestForbidden g s found
-
--- the sites that burning found, and whether all burn
-abbrev pub sites_in : Burned → List ℕ
-sites_in (Recurrent order) = order.items
-sites_in (Forbidden set) = set.items
-
-abbrev pub burns_out : Burned → Bool
-burns_out (Recurrent order) = true
-burns_out (Forbidden set) = false
 
 -- the arguments are a stable pile, and burning it found the first `count` places of what was written
 pub record IsBurning (meaning : Result PileView Fault) (after : List ℕ) (count : ℕ) (recurrent : Bool) : Type 0 where

@@ -1,7 +1,7 @@
 -- What `sandpile_drop` does.
 use Rattle.std.specs.Prelude.{ℕ, ◌≡◌, ◌+◌, Bool, nat_lt, if◌then◌else◌, List, [], ◌∷◌, length, sum, Result, Ok, Err}
 use Rattle.std.specs.List.{list_all}
-use Rattle.sand_model.specs.Grid.{Grid, sites}
+use Rattle.sand_model.specs.Grid.{sites}
 use Rattle.sand_model.specs.Piles.{PileView, most_grains}
 use Rattle.sand_settle.specs.Avalanches.{Avalanche, IsAvalanche}
 use Rattle.sand_settle.specs.Drops.{OneView, grid_of_one_pile, topplings_between, IsAfter, Drops}
@@ -14,27 +14,17 @@ use Rattle.sand_c.specs.Arguments.{grid_of, has_length, pile_on, ◌>>=◌}
 abbrev pub are_sites : ℕ → List ℕ → Bool
 are_sites n drops = list_all (λ site. nat_lt site n) drops
 
--- the pile, if every drop is at one of its sites
-abbrev pub with_sites : List ℕ → PileView → Result PileView Fault
-with_sites drops p = if are_sites (sites p.grid) drops then Ok p else Err NoSite
-
--- the pile, if it has room for `count` drops
-abbrev pub with_room : ℕ → PileView → Result PileView Fault
-with_room count p = if nat_lt most_grains (sum p.heights + count) then Err Full else Ok p
-
--- the pile, if these drops can be made on it
+-- the pile, if every drop is at one of its sites, and it has room for all
 abbrev pub with_drops : List ℕ → PileView → Result PileView Fault
-with_drops drops p = with_sites drops p >>= with_room (length drops)
-
--- the pile with these heights on a grid, if these drops can be made on it
-abbrev pub drops_on : Grid → List ℕ → List ℕ → Result PileView Fault
-drops_on g heights drops = pile_on g heights >>= with_drops drops
+with_drops drops p = if are_sites (sites p.grid) drops
+    then (if nat_lt most_grains (sum p.heights + length drops) then Err Full else Ok p)
+    else Err NoSite
 
 abbrev pub dropping_of : Sides → List ℕ → List ℕ → List ℕ → List Avalanche → Result PileView Fault
 dropping_of s heights odometer drops avalanches =
     grid_of s >>= λ g. has_length (sites g) (length heights)
     >>= λ _. has_length (sites g) (length odometer) >>= λ _. has_length (length drops) (length avalanches)
-    >>= λ _. drops_on g heights drops
+    >>= λ _. pile_on g heights >>= with_drops drops
 
 -- the drops at these sites lead from v to w, and these are their avalanches
 abbrev pub AreAvalanches : OneView → List ℕ → List Avalanche → OneView → Type 0

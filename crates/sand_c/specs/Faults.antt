@@ -4,10 +4,6 @@ use Rattle.sand_group.specs.declared.faults.GroupFault.{GroupFault}
 use Rattle.sand_group.specs.declared.faults.GroupFault.TheVariants as group
 use Rattle.sand_model.specs.declared.faults.ShapeFault.{ShapeFault}
 use Rattle.sand_model.specs.declared.faults.ShapeFault.TheVariants as shape
-use Rattle.sand_model.specs.declared.faults.PileFault.{PileFault}
-use Rattle.sand_model.specs.declared.faults.PileFault.TheVariants as pile
-use Rattle.sand_settle.specs.declared.faults.OneFault.{OneFault}
-use Rattle.sand_settle.specs.declared.faults.OneFault.TheVariants as one
 use Rattle.sand_c.specs.declared.faults.Fault.{Fault}
 use Rattle.sand_c.specs.declared.faults.Fault.TheVariants.{Side, Length, TooManyGrains, Memory, Full, Unstable, NotRecurrent, Shapes, TooMuch, Rows, Apart, Spent, Missing, Taken, Narrow, NoSite, Empty, OtherPile}
 
@@ -34,15 +30,6 @@ number_of OtherPile = 27
 abbrev pub of_shape : ShapeFault → Fault
 of_shape shape.Side = Side
 of_shape shape.Narrow = Narrow
-
-abbrev pub of_pile : PileFault → Fault
-of_pile pile.Length = Length
-of_pile pile.TooManyGrains = TooManyGrains
-of_pile (pile.Memory refused) = Memory
-
-abbrev pub of_one : OneFault → Fault
-of_one one.Full = Full
-of_one (one.Memory refused) = Memory
 
 abbrev pub of_group : GroupFault → Fault
 of_group group.Unstable = Unstable

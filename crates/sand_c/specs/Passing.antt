@@ -43,11 +43,9 @@ whole_of v Memory = IsWhole v.pile.terms v.pass
 whole_of v fault = ⊥
 
 -- the start of a pile, if the quota is within the limit
-abbrev pub with_quota : ℕ → PileView → Result PileView Fault
-with_quota quota p = if nat_lt most_grains (sum p.heights + quota) then Err TooManyGrains else Ok p
-
 abbrev pub with_quota_of : Result PileView Fault → ℕ → Result PileView Fault
-with_quota_of meaning quota = meaning >>= with_quota quota
+with_quota_of meaning quota =
+    meaning >>= λ p. (if nat_lt most_grains (sum p.heights + quota) then Err TooManyGrains else Ok p)
 
 -- the pass, if arrays of these lengths suit its pile and its drops
 abbrev pub record_to : OwnedPassView → ℕ → ℕ → ℕ → Result OwnedPassView Fault

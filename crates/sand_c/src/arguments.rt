@@ -3,10 +3,10 @@
 ghost use Rattle.std.specs.Prelude.{◌≡◌, ◌≢◌, ◌<◌, ◌≤◌, Ok, Err, OnOk, IfOk, IfErr, IfSome, IfNone, length, sum};
 ghost use Rattle.sand_model.specs.Piles.{most_grains};
 ghost use Rattle.sand_model.specs.Grid.{sites};
-ghost use Rattle.sand_c.specs.Arguments.{sides_of, edge_of, grid_of, pile_of, pile_on, pile_with, Fails};
+ghost use Rattle.sand_c.specs.Arguments.{sides_of, edge_of, grid_of, pile_of, pile_with, Fails};
 
 use crate::faults::Fault;
-use sand_model::{Edge, GRAIN_LIMIT, Pile, Shape};
+use sand_model::{Edge, GRAIN_LIMIT, Pile, PileFault, Shape, ShapeFault};
 use std::alloc::Global;
 
 /// The sides and the edge of a grid, as a caller gives them.
@@ -39,18 +39,8 @@ pub(crate) fn grid_of(sides: Sides) -> Result<Shape, Fault>
 {
     match Shape::with_edge(sides.width, sides.height, edge_of(sides.cylinder)) {
         Ok(shape) => Ok(shape),
-        Err(fault) => Err(Fault::from(fault)),
-    }
-}
-
-// The pile with these heights.
-fn pile_on(alloc: Global, shape: Shape, heights: &[u64]) -> Result<Pile, Fault>
-    ensures made { IfOk result (λ p. pile_on shape heights.now ≡ Ok p) }
-    ensures fault { IfErr result (λ e. Fails e (pile_on shape heights.now)) }
-{
-    match Pile::new(alloc, shape, heights) {
-        Ok(pile) => Ok(pile),
-        Err(fault) => Err(Fault::from(fault)),
+        Err(ShapeFault::Side) => Err(Fault::Side),
+        Err(ShapeFault::Narrow) => Err(Fault::Narrow),
     }
 }
 
@@ -60,7 +50,12 @@ pub(crate) fn pile_in(alloc: Global, sides: Sides, heights: &[u64]) -> Result<Pi
     ensures fault { IfErr result (λ e. Fails e (pile_of sides heights.now)) }
 {
     let shape = grid_of(sides)?;
-    pile_on(alloc, shape, heights)
+    match Pile::new(alloc, shape, heights) {
+        Ok(pile) => Ok(pile),
+        Err(PileFault::Length) => Err(Fault::Length),
+        Err(PileFault::TooManyGrains) => Err(Fault::TooManyGrains),
+        Err(PileFault::Memory(_)) => Err(Fault::Memory),
+    }
 }
 
 /// The sum of the heights, if it is within the limit.

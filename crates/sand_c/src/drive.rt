@@ -1,21 +1,21 @@
 //! A driven pile that knows how many more grains it takes.
 
-ghost use Rattle.std.specs.Prelude.{◌≡◌, ◌≢◌, ◌+◌, ◌-◌, ◌<◌, ◌≤◌, [], ℕ, length, slice_index, IfOk, IfErr, OnOk, OnErr, Ok, Err, IsOkUnless};
+ghost use Rattle.std.specs.Prelude.{◌≡◌, ◌≢◌, ◌+◌, ◌-◌, ◌<◌, ◌≤◌, [], ℕ, length, slice_index, IfOk, IfErr, OnOk, OnErr, Ok, Err, IsOk};
 ghost use Rattle.sand_model.specs.Grid.{sites};
 ghost use Rattle.sand_model.specs.Piles.{height_of};
 ghost use Rattle.sand_settle.specs.Settling.{odometer_of};
 ghost use Rattle.sand_settle.specs.Drops.{grid_of_one_pile, IsAfter};
 ghost use Rattle.sand_c.specs.Arguments.{Fails};
-ghost use Rattle.sand_c.specs.Driving.{HaveDriven, HasDriven, IsSiteOf, drops_on_drive, drop_on_drive};
+ghost use Rattle.sand_c.specs.Driving.{HaveDriven, HasDriven, IsReading, IsSiteOf, drops_on_drive, drop_on_drive, entries_of, with_site};
 ghost use Rattle.sand_c.specs.KeptOdometers.{IsOdometer};
 
-use crate::avalanche::SandpileAvalanche;
+use crate::SandpileAvalanche;
 use crate::dropping::{are_sites, drop_all};
 use crate::faults::Fault;
-use crate::kept_odometer::{bring_up_to_date, read_odometer, take_topplings};
+use crate::kept_odometer::{read_odometer, take_topplings};
 use sand_model::{GRAIN_LIMIT, Pile};
 use sand_settle::DrivenPile;
-use std::alloc::Global;
+use std::alloc::{AllocError, Global};
 use std::marker::Model;
 
 /// A driven pile, how many grains it still takes, and an odometer for the topplings of single avalanches.
@@ -41,11 +41,12 @@ impl Model for Drive {
 }
 
 impl Drive {
-    pub(crate) fn new(alloc: Global, start: &Pile) -> Result<Drive, Fault>
-        ensures settled { IfOk result (IsAfter start.now []) }
-        ensures memory { IsOkUnless result Fault.Memory }
+    pub(crate) fn new(alloc: Global, start: &Pile) -> Result<Drive, AllocError>
+        ensures { IfOk result (IsAfter start.now []) }
     {
-        let pile = DrivenPile::new(alloc, start)?;
+        let Ok(pile) = DrivenPile::new(alloc, start) else {
+            return Err(AllocError);
+        };
         let room = GRAIN_LIMIT - start.grains();
         let kept = vec![in alloc; 0; pile.shape().sites()]?;
         Ok(Drive {
@@ -56,19 +57,11 @@ impl Drive {
         })
     }
 
-    /// The number of sites.
-    pub(crate) fn sites(&self) -> usize
+    // The number of sites.
+    fn sites(&self) -> usize
         ensures { result ≡ sites (grid_of_one_pile self.now) }
     {
         self.pile.shape().sites()
-    }
-
-    /// The number of topplings and of grains lost since the start.
-    pub(crate) fn sums(&self) -> (u64, u64)
-        ensures topplings { result.0 ≡ self.now.settled.topplings }
-        ensures lost { result.1 ≡ self.now.settled.lost }
-    {
-        (self.pile.topplings(), self.pile.lost())
     }
 
     /// Drops a grain at each site in turn, and writes the avalanches.
@@ -101,8 +94,8 @@ impl Drive {
         Ok(())
     }
 
-    /// Writes the heights.
-    pub(crate) fn read_heights(&self, heights: &mut [u64])
+    // Writes the heights.
+    fn read_heights(&self, heights: &mut [u64])
         requires { length heights.old ≡ sites (grid_of_one_pile self.now) }
         ensures len { length heights.new ≡ length heights.old }
         ensures heights { (i : ℕ) → i < sites (grid_of_one_pile self.now)
@@ -113,8 +106,8 @@ impl Drive {
         }
     }
 
-    /// Writes how often each site has toppled.
-    pub(crate) fn read_odometer(&self, odometer: &mut [u64])
+    // Writes how often each site has toppled.
+    fn read_odometer(&self, odometer: &mut [u64])
         requires { length odometer.old ≡ sites (grid_of_one_pile self.now) }
         ensures { IsOdometer odometer.new self.now }
     {
@@ -125,12 +118,51 @@ impl Drive {
         }
     }
 
-    /// The height of a site, and how often it has toppled.
-    pub(crate) fn site(&self, site: usize) -> (u64, u64)
-        requires { site < sites (grid_of_one_pile self.now) }
-        ensures { IsSiteOf site result.0 result.1 self.now }
+    /// Writes what it is now, if each array has an entry for each site, or none.
+    pub(crate) fn read(
+        &self,
+        heights: &mut [u64],
+        odometer: &mut [u64],
+        topplings: &mut u64,
+        lost: &mut u64,
+    ) -> Result<(), Fault>
+        ensures read { OnOk result (IsReading heights.new odometer.new topplings.new lost.new self.now) }
+        ensures meant { OnOk result (IsOk (entries_of self.now (length heights.old) (length odometer.old))) }
+        ensures fault { IfErr result (λ e. entries_of self.now (length heights.old) (length odometer.old) ≡ Err e) }
+        ensures heights { OnErr result (heights.new ≡ heights.old) }
+        ensures odometer { OnErr result (odometer.new ≡ odometer.old) }
+        ensures topplings { OnErr result (topplings.new ≡ topplings.old) }
+        ensures lost { OnErr result (lost.new ≡ lost.old) }
     {
-        (self.pile.height(site), self.pile.odometer(site))
+        let sites = self.sites();
+        let wants_heights = heights.len() != 0;
+        let wants_odometer = odometer.len() != 0;
+        if (wants_heights && heights.len() != sites)
+            || (wants_odometer && odometer.len() != sites)
+        {
+            return Err(Fault::Length);
+        }
+        if wants_heights {
+            self.read_heights(heights);
+        }
+        if wants_odometer {
+            self.read_odometer(odometer);
+        }
+        *topplings = self.pile.topplings();
+        *lost = self.pile.lost();
+        Ok(())
+    }
+
+    /// The height of a site, and how often it has toppled.
+    pub(crate) fn site(&self, site: usize) -> Result<(u64, u64), Fault>
+        ensures site { IfOk result (λ r. IsSiteOf site r.0 r.1 self.now) }
+        ensures meant { OnOk result (IsOk (with_site site self.now)) }
+        ensures fault { IfErr result (λ e. with_site site self.now ≡ Err e) }
+    {
+        if site >= self.sites() {
+            return Err(Fault::NoSite);
+        }
+        Ok((self.pile.height(site), self.pile.odometer(site)))
     }
 
     /// Drops a grain at a site, and writes the avalanche and how often each site topples in it.
@@ -156,7 +188,9 @@ impl Drive {
         if self.room == 0 {
             return Err(Fault::Full);
         }
-        bring_up_to_date(&self.pile, &mut self.kept, self.is_current);
+        if !self.is_current {
+            read_odometer(&self.pile, &mut self.kept);
+        }
         let (_, caused) = self.pile.drop_at(site).unwrap();
         self.room -= 1;
         self.is_current = true;

@@ -2,7 +2,9 @@
 
 ghost use Rattle.std.specs.Prelude.{◌≡◌, Option, Some, None, MatchOption};
 ghost use Rattle.sand_settle.specs.Drops.{OneView};
-ghost use Rattle.sand_c.specs.DriveHandles.{drive_coded, drive_owns};
+ghost use Rattle.std.specs.Coded.{coded_option};
+ghost use Rattle.sand_c.specs.Handles.{owns_at};
+ghost use Rattle.sand_c.specs.contracts.drive.Drive.{the_row};
 
 use crate::drive::Drive;
 use crate::parts::Parts;
@@ -15,11 +17,11 @@ use std::ptr::null_mut;
 #[derive(Drop)]
 pub struct SandpileDrive {
     at: *mut u8,
-    pub ghost held: { Option OneView } by { drive_coded },
+    pub ghost held: { Option OneView } by { coded_option the_row.coded },
 }
 
 impl Model for SandpileDrive {
-    ghost also_owns = { λ h. drive_owns h.at h.held };
+    ghost also_owns = { λ h. owns_at the_row h.at h.held };
 }
 
 impl SandpileDrive {

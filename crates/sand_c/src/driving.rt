@@ -2,12 +2,12 @@
 //!
 //! Each call takes the pile out of its handle, works on it, and puts it back.
 
-ghost use Rattle.std.specs.Prelude.{◌≡◌, ◌≢◌, Err, IfOk, IfErr, OnOk, OnErr, IsOk, None, length};
+ghost use Rattle.std.specs.Prelude.{◌≡◌, ◌≢◌, IfOk, IfErr, OnOk, IsOk, None, length};
 ghost use Rattle.sand_c.specs.Arguments.{sides_of, Fails, Answers, Returns, pile_of};
-ghost use Rattle.sand_c.specs.Driving.{IsDriveOf, Holds, LeadsTo, HaveDriven, HasDriven, IsReading, IsSiteOf, opening_of, driving_of, avalanche_of, entries_of, reading_of, with_site, site_of};
+ghost use Rattle.sand_c.specs.Driving.{IsDriveOf, Holds, LeadsTo, HaveDriven, HasDriven, IsReading, IsSiteOf, opening_of, driving_of, avalanche_of, reading_of, site_of};
 
+use crate::SandpileAvalanche;
 use crate::arguments::{Sides, pile_in, sides_of};
-use crate::avalanche::SandpileAvalanche;
 use crate::drive::Drive;
 use crate::drive_handle::SandpileDrive;
 use crate::faults::{Fault, answer};
@@ -21,32 +21,7 @@ fn drive_of(alloc: Global, sides: Sides, heights: &[u64]) -> Result<Box<Drive>, 
 {
     let start = pile_in(alloc, sides, heights)?;
     let drive = Drive::new(alloc, &start)?;
-    match Box::new(alloc, drive) {
-        Ok(held) => Ok(held),
-        Err(_) => Err(Fault::Memory),
-    }
-}
-
-fn open(
-    alloc: Global,
-    sides: Sides,
-    heights: &[u64],
-    drive: &mut SandpileDrive,
-) -> Result<(), Fault>
-    ensures made { OnOk result (Holds drive.new.held (IsDriveOf (pile_of sides heights.now))) }
-    ensures meant { OnOk result
-        (IsOk (opening_of drive.old.held (pile_of sides heights.now))) }
-    ensures fault { IfErr result
-        (λ e. Fails e (opening_of drive.old.held (pile_of sides heights.now))) }
-    ensures drive { OnErr result (drive.new.held ≡ drive.old.held) }
-{
-    if let Some(held) = drive.take(alloc) {
-        drive.put(held);
-        return Err(Fault::Taken);
-    }
-    let held = drive_of(alloc, sides, heights)?;
-    drive.put(held);
-    Ok(())
+    Ok(Box::new(alloc, drive)?)
 }
 
 /// Settles a pile, and makes an empty handle hold it. Returns 0, or the first of 17 (Taken), 1 (Side), 24 (Narrow), 2
@@ -65,30 +40,17 @@ pub extern "C" fn sandpile_drive_new(
     ensures answer { Answers result (opening_of drive.old.held (pile_of (sides_of width height cylinder) heights.now)) }
     ensures drive { result ≢ 0 → drive.new.held ≡ drive.old.held }
 {
-    answer(open(alloc, sides_of(width, height, cylinder), heights, drive))
-}
-
-fn drop_on(
-    alloc: Global,
-    drive: &mut SandpileDrive,
-    drops: &[usize],
-    avalanches: &mut [SandpileAvalanche],
-) -> Result<(), Fault>
-    ensures driven { OnOk result
-        (LeadsTo drive.old.held (λ v w. HaveDriven v drops.now avalanches.new w) drive.new.held) }
-    ensures meant { OnOk result
-        (IsOk (driving_of drive.old.held drops.now (length avalanches.old))) }
-    ensures fault { IfErr result
-        (λ e. Fails e (driving_of drive.old.held drops.now (length avalanches.old))) }
-    ensures drive { OnErr result (drive.new.held ≡ drive.old.held) }
-    ensures avalanches { OnErr result (avalanches.new ≡ avalanches.old) }
-{
-    let Some(mut held) = drive.take(alloc) else {
-        return Err(Fault::Empty);
-    };
-    let driven = held.drop_each(alloc, drops, avalanches);
-    drive.put(held);
-    driven
+    if let Some(held) = drive.take(alloc) {
+        drive.put(held);
+        return Fault::Taken.number();
+    }
+    match drive_of(alloc, sides_of(width, height, cylinder), heights) {
+        Ok(held) => {
+            drive.put(held);
+            0
+        }
+        Err(fault) => fault.number(),
+    }
 }
 
 /// Drops a grain at each site in turn; each settles before the next. Writes the avalanche of each drop. Returns 0, or
@@ -108,32 +70,12 @@ pub extern "C" fn sandpile_drive_drop(
     ensures drive { result ≢ 0 → drive.new.held ≡ drive.old.held }
     ensures avalanches { result ≢ 0 → avalanches.new ≡ avalanches.old }
 {
-    answer(drop_on(alloc, drive, drops, avalanches))
-}
-
-fn drop_one_on(
-    alloc: Global,
-    drive: &mut SandpileDrive,
-    site: usize,
-    avalanche: &mut SandpileAvalanche,
-    topplings: &mut [u64],
-) -> Result<(), Fault>
-    ensures driven { OnOk result
-        (LeadsTo drive.old.held (λ v w. HasDriven v site avalanche.new topplings.new w) drive.new.held) }
-    ensures meant { OnOk result
-        (IsOk (avalanche_of drive.old.held site (length topplings.old))) }
-    ensures fault { IfErr result
-        (λ e. (avalanche_of drive.old.held site (length topplings.old)) ≡ Err e) }
-    ensures drive { OnErr result (drive.new.held ≡ drive.old.held) }
-    ensures avalanche { OnErr result (avalanche.new ≡ avalanche.old) }
-    ensures topplings { OnErr result (topplings.new ≡ topplings.old) }
-{
     let Some(mut held) = drive.take(alloc) else {
-        return Err(Fault::Empty);
+        return Fault::Empty.number();
     };
-    let driven = held.drop_one(site, avalanche, topplings);
+    let driven = held.drop_each(alloc, drops, avalanches);
     drive.put(held);
-    driven
+    answer(driven)
 }
 
 /// Drops a grain at a site. Writes its avalanche, and how often each site topples in it. Returns 0, or the first of 26
@@ -154,72 +96,12 @@ pub extern "C" fn sandpile_drive_avalanche(
     ensures avalanche { result ≢ 0 → avalanche.new ≡ avalanche.old }
     ensures topplings { result ≢ 0 → topplings.new ≡ topplings.old }
 {
-    answer(drop_one_on(alloc, drive, site, avalanche, topplings))
-}
-
-// Writes what a driven pile is now, if each array has an entry for each site, or none.
-fn read_from(
-    held: &Drive,
-    heights: &mut [u64],
-    odometer: &mut [u64],
-    topplings: &mut u64,
-    lost: &mut u64,
-) -> Result<(), Fault>
-    ensures read { OnOk result (IsReading heights.new odometer.new topplings.new lost.new held.now) }
-    ensures meant { OnOk result
-        (IsOk (entries_of held.now (length heights.old) (length odometer.old))) }
-    ensures fault { IfErr result
-        (λ e. (entries_of held.now (length heights.old) (length odometer.old)) ≡ Err e) }
-    ensures heights { OnErr result (heights.new ≡ heights.old) }
-    ensures odometer { OnErr result (odometer.new ≡ odometer.old) }
-    ensures topplings { OnErr result (topplings.new ≡ topplings.old) }
-    ensures lost { OnErr result (lost.new ≡ lost.old) }
-{
-    let sites = held.sites();
-    let wants_heights = heights.len() != 0;
-    let wants_odometer = odometer.len() != 0;
-    if (wants_heights && heights.len() != sites) || (wants_odometer && odometer.len() != sites) {
-        return Err(Fault::Length);
-    }
-    if wants_heights {
-        held.read_heights(heights);
-    }
-    if wants_odometer {
-        held.read_odometer(odometer);
-    }
-    let (all, fallen) = held.sums();
-    *topplings = all;
-    *lost = fallen;
-    Ok(())
-}
-
-fn read(
-    alloc: Global,
-    drive: &mut SandpileDrive,
-    heights: &mut [u64],
-    odometer: &mut [u64],
-    topplings: &mut u64,
-    lost: &mut u64,
-) -> Result<(), Fault>
-    ensures read { OnOk result
-        (Holds drive.old.held (IsReading heights.new odometer.new topplings.new lost.new)) }
-    ensures meant { OnOk result
-        (IsOk (reading_of drive.old.held (length heights.old) (length odometer.old))) }
-    ensures fault { IfErr result
-        (λ e. (reading_of drive.old.held (length heights.old) (length odometer.old))
-        ≡ Err e) }
-    ensures drive { drive.new.held ≡ drive.old.held }
-    ensures heights { OnErr result (heights.new ≡ heights.old) }
-    ensures odometer { OnErr result (odometer.new ≡ odometer.old) }
-    ensures topplings { OnErr result (topplings.new ≡ topplings.old) }
-    ensures lost { OnErr result (lost.new ≡ lost.old) }
-{
-    let Some(held) = drive.take(alloc) else {
-        return Err(Fault::Empty);
+    let Some(mut held) = drive.take(alloc) else {
+        return Fault::Empty.number();
     };
-    let read = read_from(&held, heights, odometer, topplings, lost);
+    let driven = held.drop_one(site, avalanche, topplings);
     drive.put(held);
-    read
+    answer(driven)
 }
 
 /// Writes the heights now, how often each site has toppled since the start, the number of topplings and the grains
@@ -243,46 +125,12 @@ pub extern "C" fn sandpile_drive_read(
     ensures topplings { result ≢ 0 → topplings.new ≡ topplings.old }
     ensures lost { result ≢ 0 → lost.new ≡ lost.old }
 {
-    answer(read(alloc, drive, heights, odometer, topplings, lost))
-}
-
-// Writes the height of a site of a driven pile, and how often it has toppled.
-fn site_from(held: &Drive, site: usize, height: &mut u64, topplings: &mut u64) -> Result<(), Fault>
-    ensures read { OnOk result (IsSiteOf site height.new topplings.new held.now) }
-    ensures meant { OnOk result (IsOk (with_site site held.now)) }
-    ensures fault { IfErr result (λ e. with_site site held.now ≡ Err e) }
-    ensures height { OnErr result (height.new ≡ height.old) }
-    ensures topplings { OnErr result (topplings.new ≡ topplings.old) }
-{
-    if site >= held.sites() {
-        return Err(Fault::NoSite);
-    }
-    let (now, so_far) = held.site(site);
-    *height = now;
-    *topplings = so_far;
-    Ok(())
-}
-
-fn read_site(
-    alloc: Global,
-    drive: &mut SandpileDrive,
-    site: usize,
-    height: &mut u64,
-    topplings: &mut u64,
-) -> Result<(), Fault>
-    ensures read { OnOk result (Holds drive.old.held (IsSiteOf site height.new topplings.new)) }
-    ensures meant { OnOk result (IsOk (site_of drive.old.held site)) }
-    ensures fault { IfErr result (λ e. site_of drive.old.held site ≡ Err e) }
-    ensures drive { drive.new.held ≡ drive.old.held }
-    ensures height { OnErr result (height.new ≡ height.old) }
-    ensures topplings { OnErr result (topplings.new ≡ topplings.old) }
-{
     let Some(held) = drive.take(alloc) else {
-        return Err(Fault::Empty);
+        return Fault::Empty.number();
     };
-    let read = site_from(&held, site, height, topplings);
+    let read = held.read(heights, odometer, topplings, lost);
     drive.put(held);
-    read
+    answer(read)
 }
 
 /// Writes the height of a site now, and how often it has toppled since the start, the start's settling included.
@@ -302,7 +150,19 @@ pub extern "C" fn sandpile_drive_site(
     ensures height { result ≢ 0 → height.new ≡ height.old }
     ensures topplings { result ≢ 0 → topplings.new ≡ topplings.old }
 {
-    answer(read_site(alloc, drive, site, height, topplings))
+    let Some(held) = drive.take(alloc) else {
+        return Fault::Empty.number();
+    };
+    let read = held.site(site);
+    drive.put(held);
+    match read {
+        Ok((now, so_far)) => {
+            *height = now;
+            *topplings = so_far;
+            0
+        }
+        Err(fault) => fault.number(),
+    }
 }
 
 /// Frees what the handle holds, and empties it.

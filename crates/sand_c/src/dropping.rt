@@ -1,25 +1,25 @@
 //! Dropping grains on a settled pile.
 
-ghost use Rattle.std.specs.Prelude.{◌≡◌, ◌≢◌, ◌+◌, ◌<◌, ◌≤◌, ℕ, List, [], ◌++◌, length, sum, All, Ok, Err, IfOk, IfErr, OnOk, OnErr, IsTrue, IsOk, IsOkUnless};
+ghost use Rattle.std.specs.Prelude.{◌≡◌, ◌≢◌, ◌+◌, ◌<◌, ◌≤◌, ℕ, List, [], ◌++◌, length, sum, All, Ok, IfOk, IfErr, OnOk, OnErr, IsTrue};
 ghost use Rattle.sand_model.specs.Grid.{sites};
 ghost use Rattle.sand_model.specs.Piles.{PileView, most_grains};
 ghost use Rattle.sand_settle.specs.Drops.{grid_of_one_pile, IsAfter};
 ghost use Rattle.sand_c.specs.Arguments.{sides_of, Fails, Answers};
-ghost use Rattle.sand_c.specs.Dropping.{AreAvalanches, IsDropping, dropping_of, are_sites, drops_on};
+ghost use Rattle.sand_c.specs.Dropping.{AreAvalanches, IsDropping, dropping_of, are_sites};
 
+use crate::SandpileAvalanche;
 use crate::arguments::{Sides, grains_of, grid_of, sides_of};
-use crate::avalanche::SandpileAvalanche;
-use crate::faults::{Fault, answer};
-use sand_model::{GRAIN_LIMIT, Pile, Shape};
-use sand_settle::{DrivenPile, Settled};
-use std::alloc::Global;
+use crate::faults::Fault;
+use sand_model::{GRAIN_LIMIT, Pile};
+use sand_settle::DrivenPile;
+use std::alloc::{AllocError, Global};
 
 // Drops a grain at each site in turn, and records each avalanche.
 pub(crate) fn drop_all(
     alloc: Global,
     pile: &mut DrivenPile,
     drops: &[usize],
-) -> Result<Vec<SandpileAvalanche>, Fault>
+) -> Result<Vec<SandpileAvalanche>, AllocError>
     requires sites { All (λ site. site < sites (grid_of_one_pile pile.old)) drops.now }
     requires room { pile.old.grains + length drops.now ≤ most_grains }
     ensures rows { IfOk result (λ rows. AreAvalanches pile.old drops.now rows.items pile.new) }
@@ -29,7 +29,6 @@ pub(crate) fn drop_all(
     ensures after { OnOk result ((start : PileView) (history : List ℕ) → IsAfter start history pile.old
         → IsAfter start (history ++ drops.now) pile.new) }
     ensures unchanged { OnErr result (pile.new ≡ pile.old) }
-    ensures memory { IsOkUnless result Fault.Memory }
 {
     let mut rows = Vec::with_capacity(alloc, drops.len())?;
     for site in drops {
@@ -46,29 +45,6 @@ pub(crate) fn are_sites(drops: &[usize], sites: usize) -> bool
     ensures all { IsTrue result → All (λ site. site < sites) drops.now }
 {
     drops.iter().all(|site| *site < sites)
-}
-
-// Whether the heights are within the limit, every drop is at a site, and there is room for all drops.
-fn suit(shape: Shape, heights: &[u64], drops: &[usize]) -> Result<(), Fault>
-    requires { length heights.now ≡ sites shape }
-    ensures ok { OnOk result (drops_on shape heights.now drops.now
-        ≡ Ok (record { grid = shape; heights = heights.now })) }
-    ensures err { IfErr result (λ e. drops_on shape heights.now drops.now ≡ Err e) }
-    ensures known { IfErr result (λ e. e ≢ Fault.Memory) }
-    ensures limit { OnOk result (sum heights.now ≤ most_grains) }
-    ensures room { OnOk result (sum heights.now + length drops.now ≤ most_grains) }
-    ensures all { OnOk result (All (λ site. site < sites shape) drops.now) }
-{
-    let Some(grains) = grains_of(heights) else {
-        return Err(Fault::TooManyGrains);
-    };
-    if !are_sites(drops, shape.sites()) {
-        return Err(Fault::NoSite);
-    }
-    if drops.len() as u64 > GRAIN_LIMIT - grains {
-        return Err(Fault::Full);
-    }
-    Ok(())
 }
 
 // The pile in the arguments.
@@ -97,7 +73,15 @@ fn start_of(
     {
         return Err(Fault::Length);
     }
-    suit(shape, heights, drops)?;
+    let Some(grains) = grains_of(heights) else {
+        return Err(Fault::TooManyGrains);
+    };
+    if !are_sites(drops, shape.sites()) {
+        return Err(Fault::NoSite);
+    }
+    if drops.len() as u64 > GRAIN_LIMIT - grains {
+        return Err(Fault::Full);
+    }
     match Pile::new(alloc, shape, heights) {
         Ok(start) => Ok(start),
         // All other faults are ruled out.
@@ -105,57 +89,9 @@ fn start_of(
     }
 }
 
-// The pile after the drops, and their avalanches.
-fn dropped_on(
-    alloc: Global,
-    start: &Pile,
-    drops: &[usize],
-) -> Result<(Settled, Vec<SandpileAvalanche>), Fault>
-    requires sites { All (λ site. site < sites start.now.grid) drops.now }
-    requires room { sum start.now.heights + length drops.now ≤ most_grains }
-    ensures dropped { IfOk result (λ r. IsDropping (Ok start.now) drops.now
-        r.0.pile.heights r.0.odometer r.1.items) }
-    ensures heights { IfOk result (λ r. length r.0.pile.heights ≡ sites start.now.grid) }
-    ensures odometer { IfOk result (λ r. length r.0.odometer ≡ sites start.now.grid) }
-    ensures rows { IfOk result (λ r. length r.1.items ≡ length drops.now) }
-    ensures memory { IsOkUnless result Fault.Memory }
-{
-    let mut pile = DrivenPile::new(alloc, start)?;
-    let rows = drop_all(alloc, &mut pile, drops)?;
-    Ok((pile.finish(), rows))
-}
-
-fn drop_in_turn(
-    alloc: Global,
-    sides: Sides,
-    heights: &mut [u64],
-    odometer: &mut [u64],
-    drops: &[usize],
-    avalanches: &mut [SandpileAvalanche],
-) -> Result<(), Fault>
-    ensures dropped { OnOk result
-        (IsDropping (dropping_of sides heights.old odometer.old drops.now avalanches.old)
-        drops.now heights.new odometer.new avalanches.new) }
-    ensures fault { IfErr result
-        (λ e. Fails e (dropping_of sides heights.old odometer.old drops.now avalanches.old)) }
-    ensures meant { OnOk result
-        (IsOk (dropping_of sides heights.old odometer.old drops.now avalanches.old)) }
-    ensures heights { OnErr result (heights.new ≡ heights.old) }
-    ensures odometer { OnErr result (odometer.new ≡ odometer.old) }
-    ensures avalanches { OnErr result (avalanches.new ≡ avalanches.old) }
-{
-    let start = start_of(alloc, sides, heights, odometer, drops, avalanches)?;
-    let (last, rows) = dropped_on(alloc, &start, drops)?;
-    heights.copy_from_slice(last.pile().heights());
-    odometer.copy_from_slice(last.odometers());
-    avalanches.copy_from_slice(rows.as_slice());
-    Ok(())
-}
-
 /// Settles a pile, then drops a grain at each site in turn; each settles before the next. Writes the final heights, how
 /// often each site toppled (the first settling included), and the avalanche of each drop. Returns 0, or the first of 1
 /// (Side), 24 (Narrow), 2 (Length of a slice), 3 (TooManyGrains), 25 (NoSite) and 6 (Full), or 4 (Memory).
-#[tactic(auto, using(crate::proofs::Answered::answered))]
 #[unsafe(no_mangle)]
 pub extern "C" fn sandpile_drop(
     alloc: Global,
@@ -177,5 +113,19 @@ pub extern "C" fn sandpile_drop(
     ensures avalanches { result ≢ 0 → avalanches.new ≡ avalanches.old }
 {
     let sides = sides_of(width, height, cylinder);
-    answer(drop_in_turn(alloc, sides, heights, odometer, drops, avalanches))
+    let start = match start_of(alloc, sides, heights, odometer, drops, avalanches) {
+        Ok(start) => start,
+        Err(fault) => return fault.number(),
+    };
+    let Ok(mut pile) = DrivenPile::new(alloc, &start) else {
+        return Fault::Memory.number();
+    };
+    let Ok(rows) = drop_all(alloc, &mut pile, drops) else {
+        return Fault::Memory.number();
+    };
+    let last = pile.finish();
+    heights.copy_from_slice(last.pile().heights());
+    odometer.copy_from_slice(last.odometers());
+    avalanches.copy_from_slice(rows.as_slice());
+    0
 }

@@ -1,13 +1,11 @@
 //! The reasons why a call fails, with the numbers that it returns.
 
 ghost use Rattle.std.specs.Prelude.{◌≡◌, ◌↔◌, IfErr, IsOk};
-ghost use Rattle.sand_c.specs.Faults.{number_of, of_shape, of_pile, of_one, of_group};
+ghost use Rattle.sand_c.specs.Faults.{number_of, of_group};
 ghost use Rattle.sand_c.specs.declared.faults.Fault.TheVariants as c;
 
 use sand_group::GroupFault;
-use sand_model::{PileFault, ShapeFault};
-use sand_settle::{OneFault, SettleFault};
-use std::alloc::AllocError;
+use std::alloc::{AllocError, AllocFailed};
 
 /// Why a call failed.
 #[derive(Clone, Copy)]
@@ -89,50 +87,6 @@ pub(crate) fn answer(outcome: Result<(), Fault>) -> u32
     }
 }
 
-impl From<ShapeFault> for Fault {
-    ghost from_gives = { λ fault e. e ≡ of_shape fault };
-
-    fn from(fault: ShapeFault) -> Fault {
-        match fault {
-            ShapeFault::Side => Fault::Side,
-            ShapeFault::Narrow => Fault::Narrow,
-        }
-    }
-}
-
-impl From<PileFault> for Fault {
-    ghost from_gives = { λ fault e. e ≡ of_pile fault };
-
-    fn from(fault: PileFault) -> Fault {
-        match fault {
-            PileFault::Length => Fault::Length,
-            PileFault::TooManyGrains => Fault::TooManyGrains,
-            PileFault::Memory(_) => Fault::Memory,
-        }
-    }
-}
-
-impl From<SettleFault> for Fault {
-    ghost from_gives = { λ _ e. e ≡ c.Memory };
-
-    fn from(fault: SettleFault) -> Fault {
-        match fault {
-            SettleFault::Memory(_) => Fault::Memory,
-        }
-    }
-}
-
-impl From<OneFault> for Fault {
-    ghost from_gives = { λ fault e. e ≡ of_one fault };
-
-    fn from(fault: OneFault) -> Fault {
-        match fault {
-            OneFault::Full => Fault::Full,
-            OneFault::Memory(_) => Fault::Memory,
-        }
-    }
-}
-
 impl From<GroupFault> for Fault {
     ghost from_gives = { λ fault e. e ≡ of_group fault };
 
@@ -150,6 +104,14 @@ impl From<AllocError> for Fault {
     ghost from_gives = { λ _ e. e ≡ c.Memory };
 
     fn from(_error: AllocError) -> Fault {
+        Fault::Memory
+    }
+}
+
+impl<T: Drop> From<AllocFailed<T>> for Fault {
+    ghost from_gives = { λ _ e. e ≡ c.Memory };
+
+    fn from(_error: AllocFailed<T>) -> Fault {
         Fault::Memory
     }
 }

@@ -4,7 +4,7 @@
 //! Sites farther from the drop than the reach of the avalanche have not toppled. So only the others are read, and
 //! brought up to date: an avalanche that stays near its drop is fast to read on a large grid, too.
 
-ghost use Rattle.std.specs.Prelude.{◌≡◌, ℕ, ◌+◌, ◌-◌, ◌*◌, ◌^◌, ◌<◌, ◌≤◌, length, slice_index, IsTrue};
+ghost use Rattle.std.specs.Prelude.{◌≡◌, ℕ, ◌+◌, ◌-◌, ◌*◌, ◌^◌, ◌<◌, ◌≤◌, length, slice_index};
 ghost use Rattle.sand_model.specs.Grid.{IsGrid, sites, column, row, columns_apart, distance};
 ghost use Rattle.sand_settle.specs.Settling.{odometer_of};
 ghost use Rattle.sand_settle.specs.Drops.{grid_of_one_pile};
@@ -20,17 +20,6 @@ pub(crate) fn read_odometer(pile: &DrivenPile, odometer: &mut [u64])
 {
     for (site, count) in odometer.iter_mut().enumerate() {
         *count = pile.odometer(site);
-    }
-}
-
-/// Reads the kept odometer again, unless it is current.
-pub(crate) fn bring_up_to_date(pile: &DrivenPile, kept: &mut [u64], is_current: bool)
-    requires len { length kept.old ≡ sites (grid_of_one_pile pile.now) }
-    requires current { IsTrue is_current → IsOdometer kept.old pile.now }
-    ensures { IsOdometer kept.new pile.now }
-{
-    if !is_current {
-        read_odometer(pile, kept);
     }
 }
 

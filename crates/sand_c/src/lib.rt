@@ -6,9 +6,7 @@
 //! the handles that the caller holds.
 #![tactic(auto)]
 
-mod adding;
 mod arguments;
-mod avalanche;
 mod burning;
 mod drive;
 mod drive_handle;
@@ -17,23 +15,15 @@ mod dropping;
 mod faults;
 mod group;
 mod holding;
-mod inverting;
 mod kept_odometer;
-mod multiplying;
 mod owned_pass;
 mod parts;
 mod pass_handle;
 mod passing;
-mod recording;
-mod recurrent;
 mod settling;
-mod settling_all;
-mod sharing;
 mod streams;
 mod version;
 
-pub use adding::sandpile_add;
-pub use avalanche::SandpileAvalanche;
 pub use burning::sandpile_burn;
 pub use drive_handle::SandpileDrive;
 pub use driving::{
@@ -42,18 +32,17 @@ pub use driving::{
 };
 pub use dropping::sandpile_drop;
 pub use faults::Fault;
-pub use group::{sandpile_identity, sandpile_recurrent};
+pub use group::{
+    sandpile_add, sandpile_identity, sandpile_inverse, sandpile_multiple, sandpile_recurrent,
+};
 pub use holding::SandpileHolding;
-pub use inverting::sandpile_inverse;
-pub use multiplying::sandpile_multiple;
 pub use pass_handle::SandpilePass;
 pub use passing::{
     sandpile_pass_drop, sandpile_pass_free, sandpile_pass_holding, sandpile_pass_join,
-    sandpile_pass_sweep, sandpile_pass_tally,
+    sandpile_pass_settle, sandpile_pass_split, sandpile_pass_split_rows, sandpile_pass_sweep,
+    sandpile_pass_tally, sandpile_shared_new,
 };
-pub use recording::sandpile_pass_settle;
-pub use settling::sandpile_settle;
-pub use settling_all::sandpile_settle_all;
-pub use sharing::{sandpile_pass_split, sandpile_pass_split_rows, sandpile_shared_new};
+pub use sand_settle::Avalanche as SandpileAvalanche;
+pub use settling::{sandpile_settle, sandpile_settle_all};
 pub use streams::sandpile_sites;
 pub use version::sandpile_version;

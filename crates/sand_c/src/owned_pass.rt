@@ -3,23 +3,20 @@
 //! A pass borrows nothing, but each of its calls takes the pile by reference. So C holds both: the pass, and one of the
 //! owners of the pile. The pile is freed with the last of its passes.
 
-ghost use Rattle.std.specs.Prelude.{◌≡◌, ◌+◌, ◌<◌, ◌↔◌, ◌⊎◌, length, sum, IfOk, IfErr, OnOk, OnErr, Ok, Err, IsTrue, IsOkUnless};
-ghost use Rattle.sand_model.specs.Grid.{sites};
+ghost use Rattle.std.specs.Prelude.{◌≡◌, ◌+◌, ◌<◌, ◌↔◌, ◌⊎◌, length, sum, IfOk, IfErr, OnOk, OnErr, Ok, Err, IsTrue};
 ghost use Rattle.sand_model.specs.Piles.{most_grains};
-ghost use Rattle.sand_shared.specs.OpenPile.{grid_of_terms};
-ghost use Rattle.sand_shared.specs.Passes.{IsPassOf, IsWhole};
-ghost use Rattle.sand_shared.specs.Record.{IsRecordOf};
-ghost use Rattle.sand_shared.specs.Rows.{count_of, AreApart};
+ghost use Rattle.sand_shared.specs.Passes.{IsPassOf};
+ghost use Rattle.sand_shared.specs.Rows.{AreApart};
 ghost use Rattle.sand_c.specs.OwnedPasses.{IsFirst};
 ghost use Rattle.sand_c.specs.Arguments.{Fails};
-ghost use Rattle.sand_c.specs.Passing.{HaveDropped, HasSwept, HasCounted, AreSplit, AreSplitByRows, AreJoined, are_together, drops_by, quota_of, rows_of, whole_of, holding_of};
+ghost use Rattle.sand_c.specs.Passing.{HaveDropped, HasSwept, HasCounted, AreSplit, AreSplitByRows, AreJoined, IsRecordTo, RecordFails, are_together, drops_by, quota_of, rows_of, record_to, holding_of};
 
 use crate::dropping::are_sites;
 use crate::faults::Fault;
 use crate::holding::SandpileHolding;
 use sand_model::{Pile, Shape};
 use sand_shared::{CloseFault, Pass, Record, SharedFault, SharedPile, SiteCounts};
-use std::alloc::Global;
+use std::alloc::{AllocError, Global};
 use std::marker::Model;
 use std::sync::Arc;
 use std::sync::atomic::AtomicU64;
@@ -69,36 +66,16 @@ impl OwnedPass {
             Err(SharedFault::Memory(_)) => return Err(Fault::Memory),
         };
         let shape = start.shape();
-        let Ok(counts) = SiteCounts::new(alloc, shape) else {
-            return Err(Fault::Memory);
-        };
-        let Ok(mark) = Arc::new(alloc, AtomicU64::new(0)) else {
-            return Err(Fault::Memory);
-        };
-        match Arc::new(alloc, pile) {
-            Ok(pile) => Ok(OwnedPass {
-                pile,
-                mark,
-                pass,
-                counts,
-                shape,
-            }),
-            Err(_) => Err(Fault::Memory),
-        }
-    }
-
-    /// The number of sites.
-    pub(crate) fn sites(&self) -> usize
-        ensures { result ≡ sites (grid_of_terms self.now.pile.terms) }
-    {
-        self.shape.sites()
-    }
-
-    /// The number of drops made with it and with passes joined to it.
-    pub(crate) fn drops(&self) -> usize
-        ensures { result ≡ length self.now.pass.receipts }
-    {
-        self.pass.receipts().len()
+        let counts = SiteCounts::new(alloc, shape)?;
+        let mark = Arc::new(alloc, AtomicU64::new(0))?;
+        let pile = Arc::new(alloc, pile)?;
+        Ok(OwnedPass {
+            pile,
+            mark,
+            pass,
+            counts,
+            shape,
+        })
     }
 
     /// Drops a grain on each site of a list, in order, with consecutive numbers. Returns the first number.
@@ -132,23 +109,16 @@ impl OwnedPass {
     }
 
     // A pass of the pile with nothing, in a block of its own.
-    fn blank(&mut self, alloc: Global) -> Result<Box<OwnedPass>, Fault>
+    fn blank(&mut self, alloc: Global) -> Result<Box<OwnedPass>, AllocError>
         ensures pile { IfOk result (λ b. b.value.pile ≡ self.old.pile) }
-        ensures memory { IsOkUnless result Fault.Memory }
         ensures unchanged { self.new ≡ self.old }
     {
         let shape = self.shape;
-        let Ok(counts) = SiteCounts::new(alloc, shape) else {
-            return Err(Fault::Memory);
-        };
-        let Ok(pile) = Arc::try_clone(&self.pile) else {
-            return Err(Fault::Memory);
-        };
-        let Ok(mark) = Arc::try_clone(&self.mark) else {
-            return Err(Fault::Memory);
-        };
+        let counts = SiteCounts::new(alloc, shape)?;
+        let pile = Arc::try_clone(&self.pile)?;
+        let mark = Arc::try_clone(&self.mark)?;
         let Ok(pass) = self.pile.split(alloc, &mut self.pass, 0) else {
-            return Err(Fault::Memory);
+            return Err(AllocError);
         };
         let owned = OwnedPass {
             pile,
@@ -157,18 +127,7 @@ impl OwnedPass {
             counts,
             shape,
         };
-        match Box::new(alloc, owned) {
-            Ok(held) => Ok(held),
-            Err(_) => Err(Fault::Memory),
-        }
-    }
-
-    // Makes it hold another pass of the pile.
-    fn hold(&mut self, pass: Pass)
-        requires { IsPassOf self.old.pile pass }
-        ensures { self.new ≡ record self.old { pass = pass } }
-    {
-        self.pass = pass;
+        Ok(Box::new(alloc, owned)?)
     }
 
     /// A new pass of the pile with part of the quota.
@@ -183,14 +142,12 @@ impl OwnedPass {
         }
         // With a block for it, so that nothing can fail once the quota has been split.
         let mut child = self.blank(alloc)?;
-        match self.pile.split(alloc, &mut self.pass, quota) {
-            Ok(pass) => {
-                child.hold(pass);
-                Ok(child)
-            }
-            // All other faults are ruled out.
-            Err(_) => Err(Fault::Memory),
-        }
+        // All other faults are ruled out.
+        let Ok(pass) = self.pile.split(alloc, &mut self.pass, quota) else {
+            return Err(Fault::Memory);
+        };
+        child.pass = pass;
+        Ok(child)
     }
 
     /// A new pass of the pile with the last `k` rows.
@@ -205,27 +162,24 @@ impl OwnedPass {
             return Err(Fault::Rows);
         }
         let mut child = self.blank(alloc)?;
-        match self.pile.split_rows(alloc, &mut self.pass, k) {
-            Ok(pass) => {
-                child.hold(pass);
-                Ok(child)
-            }
-            // All other faults are ruled out.
-            Err(_) => Err(Fault::Memory),
-        }
+        // All other faults are ruled out.
+        let Ok(pass) = self.pile.split_rows(alloc, &mut self.pass, k) else {
+            return Err(Fault::Memory);
+        };
+        child.pass = pass;
+        Ok(child)
     }
 
     // Takes the pass out, and leaves one with nothing.
-    fn give(&mut self, alloc: Global) -> Result<Pass, Fault>
+    fn give(&mut self, alloc: Global) -> Result<Pass, AllocError>
         ensures given { IfOk result (λ p. p ≡ self.old.pass) }
         ensures of_pile { IfOk result (λ p. IsPassOf self.old.pile p) }
         ensures pile { self.new.pile ≡ self.old.pile }
-        ensures memory { IsOkUnless result Fault.Memory }
         ensures unchanged { OnErr result (self.new ≡ self.old) }
     {
         match self.pile.split(alloc, &mut self.pass, 0) {
             Ok(blank) => Ok(std::mem::replace(&mut self.pass, blank)),
-            Err(_) => Err(Fault::Memory),
+            Err(_) => Err(AllocError),
         }
     }
 
@@ -261,20 +215,34 @@ impl OwnedPass {
         match self.pile.join(alloc, &mut self.pass, pass) {
             Ok(()) => Ok(()),
             Err((_, pass)) => {
-                other.hold(pass);
+                other.pass = pass;
                 // Apart is ruled out.
                 Err(Fault::Memory)
             }
         }
     }
 
-    /// The record of the pile, if the pass is whole. The pile and the pass stay as they are.
-    pub(crate) fn record_now(&mut self, alloc: Global) -> Result<Record, Fault>
-        ensures record_now { IfOk result (IsRecordOf self.old.pile.terms self.old.pass) }
-        ensures whole { OnOk result (IsWhole self.old.pile.terms self.old.pass) }
-        ensures fault { IfErr result (λ e. whole_of self.old e) }
+    /// The record of the pile, if arrays of these lengths suit it and the pass is whole. The pile and the pass do not
+    /// change.
+    pub(crate) fn record_now(
+        &mut self,
+        alloc: Global,
+        heights: usize,
+        odometer: usize,
+        history: usize,
+    ) -> Result<Record, Fault>
+        ensures settled { IfOk result (λ r. IsRecordTo
+            r.settled.pile.heights r.settled.odometer r.history r.settled.topplings r.settled.lost self.old) }
+        ensures fault { IfErr result (λ e. RecordFails e (record_to self.old heights odometer history)) }
         ensures unchanged { self.new ≡ self.old }
+        ensures heights { IfOk result (λ r. heights ≡ length r.settled.pile.heights) }
+        ensures odometer { IfOk result (λ r. odometer ≡ length r.settled.odometer) }
+        ensures history { IfOk result (λ r. history ≡ length r.history) }
     {
+        let sites = self.shape.sites();
+        if heights != sites || odometer != sites || history != self.pass.receipts().len() {
+            return Err(Fault::Length);
+        }
         match self.pile.record_now(alloc, &mut self.pass) {
             Ok(settled) => Ok(settled),
             Err(CloseFault::Missing) => Err(Fault::Missing),
@@ -290,7 +258,7 @@ impl OwnedPass {
         SandpileHolding {
             left: self.pass.left(),
             seen: self.pass.seen(),
-            drops: self.drops(),
+            drops: self.pass.receipts().len(),
             first_row,
             end_row,
         }

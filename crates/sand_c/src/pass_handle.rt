@@ -2,7 +2,9 @@
 
 ghost use Rattle.std.specs.Prelude.{◌≡◌, Option, Some, None, MatchOption};
 ghost use Rattle.sand_c.specs.OwnedPasses.{OwnedPassView};
-ghost use Rattle.sand_c.specs.PassHandles.{pass_coded, pass_owns};
+ghost use Rattle.std.specs.Coded.{coded_option};
+ghost use Rattle.sand_c.specs.Handles.{owns_at};
+ghost use Rattle.sand_c.specs.contracts.owned_pass.OwnedPass.{the_row};
 
 use crate::owned_pass::OwnedPass;
 use crate::parts::Parts;
@@ -15,11 +17,11 @@ use std::ptr::null_mut;
 #[derive(Drop)]
 pub struct SandpilePass {
     at: *mut u8,
-    pub ghost held: { Option OwnedPassView } by { pass_coded },
+    pub ghost held: { Option OwnedPassView } by { coded_option the_row.coded },
 }
 
 impl Model for SandpilePass {
-    ghost also_owns = { λ h. pass_owns h.at h.held };
+    ghost also_owns = { λ h. owns_at the_row h.at h.held };
 }
 
 impl SandpilePass {

@@ -1,3 +1,4 @@
 pub mod Pushed
 pub mod TightIfBurning
+pub mod OneByOne
 pub mod TurnsOfOdometer

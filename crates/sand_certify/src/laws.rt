@@ -9,8 +9,8 @@
 //! 1990: no site of a forbidden set ever burns.)
 //!
 //! **Each odometer has turns.** No topplings of an odometer can be taken back, so no set of sites that have toppled is
-//! forbidden in the settled pile. Burn these sites round by round: while some are left, at least one of them burns. The
-//! rounds are the turns.
+//! forbidden in the settled pile. Burn these sites one by one: while some are left, one of them may burn. A site's turn
+//! is its place in this order.
 
 ghost use Rattle.sand_certify.specs.Laws.{TightIfBurning, SettledIfShown, EachOdometerIsShown};
 

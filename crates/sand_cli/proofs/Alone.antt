@@ -1,5 +1,6 @@
 -- If no two arguments share an id, each argument is the only one with its id.
-use Rattle.std.proofs.Common.{◌≡◌, Bool, true, false, not, ◌&&◌, List, [], ◌∷◌, refl, sym, true≢false}
+use Rattle.std.proofs.lemmas.Grind.{common_steps}
+use Rattle.std.proofs.Common.{arith, ◌≡◌, Bool, true, not, ◌&&◌, List, [], ◌∷◌, refl}
 use Rattle.std.specs.List.{list_all}
 use Rattle.std.specs.Str.{bytes_eq}
 use Rattle.std.proofs.lemmas.Slice.Eq.{bytes_eq-Decides}
@@ -21,25 +22,17 @@ abbrev pub IsAlone : List Rule → Rule → Type 0
 IsAlone c a = Each (λ b. bytes_eq b.id a.id ≡ true → b ≡ a) c
 
 refused : {A : Type 0} (b : Bool) → not b ≡ true → b ≡ true → A
-refused true n e = absurd (true≢false (sym n))
-refused false n e = absurd (true≢false (sym e))
+refused b n e = grind (arith, common_steps)
 
 -- `a` is alone among arguments that lack its id
 none_is : (a : Rule) (c : List Rule) → lacks a.id c ≡ true → IsAlone c a
 none_is a [] e = tt
-none_is a (b ∷ c) e =
-    let parts = both _ _ e in
-    ((λ same. refused (bytes_eq b.id a.id) parts.0 same), none_is a c parts.1)
+none_is a (b ∷ c) e = grind (arith, common_steps, both, refused, none_is a c)
 
 -- the same, seen from each of them
 is_none : (a : Rule) (c : List Rule) → lacks a.id c ≡ true → Each (λ b. bytes_eq a.id b.id ≡ true → a ≡ b) c
 is_none a [] e = tt
-is_none a (b ∷ c) e =
-    let parts = both _ _ e in (
-      (λ same. refused (bytes_eq b.id a.id) parts.0
-          ((bytes_eq-Decides b.id a.id).1 (sym ((bytes_eq-Decides a.id b.id).0 same)))),
-      is_none a c parts.1,
-    )
+is_none a (b ∷ c) e = grind (arith, common_steps, both, refused, bytes_eq-Decides, is_none a c)
 
 pub each_alone : (c : List Rule) → are_apart c ≡ true → Each (IsAlone c) c
 each_alone [] e = tt

@@ -1,5 +1,6 @@
 -- A property of each element of a list.
-use Rattle.std.proofs.Common.{Bool, true, false, cond, List, [], ◌∷◌, ◌++◌, Some}
+use Rattle.std.proofs.lemmas.Grind.{common_steps}
+use Rattle.std.proofs.Common.{arith, Bool, List, [], ◌∷◌, ◌++◌}
 use Rattle.std.specs.Prelude.{IfSome, ⊤, find}
 
 abbrev pub Each : {X : Type 0} → (X → Type 0) → List X → Type 0
@@ -21,11 +22,7 @@ each_weaker P Q (x ∷ xs) f h = (f x h.0, each_weaker P Q xs f h.1)
 -- a property of each element holds of the one that `find` returns
 pub each_found : {X : Type 0} (test : X → Bool) (P : X → Type 0) (xs : List X) → Each P xs → IfSome (find test xs) P
 each_found test P [] each = tt
-each_found test P (x ∷ xs) each = go (each_found test P xs each.1) (test x)
-  where
-    go : IfSome (find test xs) P → (b : Bool) → IfSome (cond b (Some x) (find test xs)) P
-    go later true = each.0
-    go later false = later
+each_found test P (x ∷ xs) each = grind (arith, common_steps, each_found test P xs each.1)
 
 -- the property of the first element, and that of each other
 infixr 5 ◌&◌

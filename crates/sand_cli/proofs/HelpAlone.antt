@@ -1,14 +1,13 @@
 -- If clap's model responds with help, it reports no other kind of error.
-use Rattle.std.proofs.Common.{◌≡◌, ℕ, Bool, true, false, not, cond, ◌&&◌, zero, suc, List, [], ◌∷◌, Option, Some, None, inl, inr, refl, sym, ap, length, true≢false}
-use Rattle.std.specs.Prelude.{IfSome, find, slice_get}
+use Rattle.std.proofs.lemmas.Grind.{common_steps}
+use Rattle.std.proofs.Common.{arith, ◌≡◌, ℕ, Bool, true, false, cond, zero, suc, List, [], ◌∷◌, Option, Some, None, refl, length}
+use Rattle.std.specs.Prelude.{IfSome, find}
 use Rattle.std.specs.Option.{option_map_or}
-use Rattle.std.specs.Str.{chars}
 use Rattle.clap.specs.Kinds.{IsAmong, Kinds, check_kinds, or_else, range_kinds, request_kinds, value_kinds, values_kinds}
-use Rattle.clap.specs.Walk.{Held, Names, Row, Rule, Step, Text, Walk, action_of, answers_to, arg_by_id, arg_by_index, arg_by_long, arg_by_short, attached_value, next, nothing_held, subcommand, subcommand_met, trailing, value, walk, walk_from, walked, with_default, word_met}
+use Rattle.clap.specs.Walk.{Held, Names, Row, Rule, Step, Text, Walk, answers_to, arg_by_id, arg_by_long, attached_value, nothing_held, walked, with_default}
 use Rattle.clap.specs.Simple.{App, Shape, argument_words, built, label_of, names_of}
-use Rattle.clap.specs.Faults.{action_fault, bundle_step_fault, count_fault, default_fault, defaults_fault, entered_fault, flag_word_fault, flags_fault, level_fault, long_fault, option_fault, other_fault, positional_fault, react_fault, repeat_fault, set_fault, settle_fault, short_fault, step_fault, stray_fault, turn_fault, use_fault, walk_fault, word_fault}
+use Rattle.clap.specs.Faults.{action_fault, count_fault, defaults_fault, entered_fault, flag_word_fault, flags_fault, level_fault, long_fault, option_fault, other_fault, react_fault, set_fault, settle_fault, short_fault, step_fault, turn_fault, use_fault, walk_fault}
 use Rattle.clap.specs.declared.builder.action.ArgAction.{ArgAction}
-use Rattle.clap.specs.declared.builder.action.ArgAction.TheVariants.{Append, Count, Help, HelpLong, HelpShort, Set, SetFalse, SetTrue, Version}
 use Rattle.clap.specs.declared.builder.value_parser.ValueParser.{ValueParser}
 use Rattle.clap.specs.declared.error.kind.ErrorKind.{ErrorKind}
 use Rattle.clap.specs.declared.error.kind.ErrorKind.TheVariants as kind
@@ -24,23 +23,16 @@ none : IsClear []
 none = record { alone = λ h. absurd h }
 
 one : (k : ErrorKind) → IsClear (k ∷ [])
-one k = record { alone = go }
-  where
-    go : IsAmong kind.DisplayHelp (k ∷ []) → k ∷ [] ≡ kind.DisplayHelp ∷ []
-    go (inl is) = ap (λ x. x ∷ []) (sym is)
-    go (inr h) = absurd h
+one k = grind (arith, common_steps)
 
 if_clear : (b : Bool) (x y : Kinds) → IsClear x → IsClear y → IsClear (cond b x y)
-if_clear true x y h k = h
-if_clear false x y h k = k
+if_clear b x y h k = grind (arith, common_steps)
 
 or_else_clear : (x y : Kinds) → IsClear x → IsClear y → IsClear (or_else x y)
-or_else_clear [] y h k = k
-or_else_clear (x ∷ xs) y h k = h
+or_else_clear x y h k = grind (arith, common_steps)
 
 of_clear : {A : Type 0} (f : A → Kinds) (o : Option A) → ((x : A) → IsClear (f x)) → IsClear (option_map_or f o [])
-of_clear f None h = none
-of_clear f (Some x) h = h x
+of_clear f o h = grind (arith, common_steps, none)
 
 -- ---- one use of an argument
 
@@ -56,31 +48,17 @@ range_clear : (least most n : ℕ) → IsClear (range_kinds least most n)
 range_clear least most n = search (if_clear, none, one)
 
 request_clear : (x : ArgAction) → IsClear (request_kinds x)
-request_clear Help = one _
-request_clear HelpShort = one _
-request_clear HelpLong = one _
-request_clear Version = one _
-request_clear _ = none
+request_clear action = grind (arith, common_steps, one, none)
 
 count_clear : (a : Rule) (values : List Text) (rows : List Row) → IsClear (count_fault a values rows)
-count_clear a [] rows = search value_clear
-count_clear a (v ∷ vs) rows = values_clear _ _ (v ∷ vs)
+count_clear a values rows = grind (arith, common_steps, value_clear, values_clear)
 
 set_clear : (again : Bool) (a : Rule) (values : List Text) (rows : List Row) → IsClear (set_fault again a values rows)
-set_clear again a values rows =
-    or_else_clear (repeat_fault again a.id rows) _ (if_clear _ _ _ (one _) none) (values_clear _ _ values)
+set_clear again a values rows = grind (arith, common_steps, or_else_clear, if_clear, one, none, values_clear)
 
 action_clear : (x : ArgAction) (again : Bool) (a : Rule) (values : List Text) (rows : List Row)
     → IsClear (action_fault x again a values rows)
-action_clear Set again a values rows = set_clear again a values rows
-action_clear SetTrue again a values rows = set_clear again a values rows
-action_clear SetFalse again a values rows = set_clear again a values rows
-action_clear Append again a values rows = values_clear _ _ values
-action_clear Count again a values rows = count_clear a values rows
-action_clear Help again a values rows = one _
-action_clear HelpShort again a values rows = one _
-action_clear HelpLong again a values rows = one _
-action_clear Version again a values rows = one _
+action_clear x again a values rows = grind (arith, common_steps, set_clear, values_clear, count_clear, one)
 
 use_clear : (again : Bool) (a : Rule) (values : List Text) (rows : List Row) → IsClear (use_fault again a values rows)
 use_clear again a values rows = search (or_else_clear, range_clear, action_clear)
@@ -112,14 +90,7 @@ module _ (c : List Rule) (again : Bool) where
   flags_clear : (k : ℕ) (flags : Text) (skip : ℕ) (h : Held) → IsClear (flags_fault c again k flags skip h)
   unfolding flags_fault
   flags_clear zero flags skip h = none
-  flags_clear (suc k) flags skip h = go (flags_clear k) (slice_get (chars flags) 0) skip
-    where
-      go : ((flags : Text) (skip : ℕ) (h : Held) → IsClear (flags_fault c again k flags skip h))
-          → (x : Option ℕ) (left : ℕ)
-          → IsClear (bundle_step_fault c again x flags left h (flags_fault c again k))
-      go later None left = none
-      go later (Some x) zero = short_clear (arg_by_short c x) _ h _ (λ g. later _ 0 g)
-      go later (Some x) (suc left) = later _ left h
+  flags_clear (suc k) flags skip h = grind (arith, common_steps, none, short_clear, flags_clear k)
 
   flag_word_clear : (o : Option (Text × Option Text)) (word : Text) (h : Held)
       → IsClear (flag_word_fault c again o word h)
@@ -130,9 +101,8 @@ module _ (c : List Rule) (again : Bool) where
   unfolding defaults_fault
   defaults_clear rows [] = none
   defaults_clear rows (a ∷ rest) =
-      or_else_clear (default_fault rows a) _ (if_clear _ _ _ none
-      (or_else_clear (request_kinds (action_of a)) _ (request_clear (action_of a)) (values_clear _ _ a.defaults)))
-      (defaults_clear (with_default rows a) rest)
+      let others = defaults_clear (with_default rows a) rest in
+      grind (arith, common_steps, or_else_clear, if_clear, none, request_clear, values_clear)
 
 check_clear : (help wants missing : Bool) → IsClear (check_kinds help wants missing)
 check_clear help wants missing = search (if_clear, none, one)
@@ -141,60 +111,28 @@ check_clear help wants missing = search (if_clear, none, one)
 
 module _ (s : Shape) (helpless : s.disable_help_subcommand ≡ true) where
   other_clear : (o : Option Text) (word : Text) (h : Held) → IsClear (other_fault s o word h)
-  other_clear (Some name) word h = never _ _ helpless
-    where
-      never : (b disabled : Bool) → disabled ≡ true
-          → IsClear (cond (b && not disabled) (kind.DisplayHelp ∷ kind.InvalidSubcommand ∷ []) [])
-      never true true d = none
-      never true false d = absurd (true≢false (sym d))
-      never false disabled d = none
-  other_clear None word h = if_clear _ _ _ none (flag_word_clear s.rules s.args_override_self _ word h)
+  other_clear o word h = grind (arith, common_steps, none, if_clear, flag_word_clear)
 
   stray_clear : (is_leaf : Bool)
       → IsClear (cond is_leaf (kind.UnknownArgument ∷ []) (kind.UnknownArgument ∷ kind.InvalidSubcommand ∷ []))
-  stray_clear true = one _
-  stray_clear false = record { alone = go }
-    where
-      go : IsAmong kind.DisplayHelp (kind.UnknownArgument ∷ kind.InvalidSubcommand ∷ [])
-          → kind.UnknownArgument ∷ kind.InvalidSubcommand ∷ [] ≡ kind.DisplayHelp ∷ []
-      go (inl is) = cc
-      go (inr (inl is)) = cc
-      go (inr (inr h)) = absurd h
+  stray_clear is_leaf = grind (arith, common_steps, one)
 
   step_clear : (position : ℕ) (h : Held) (step : Step) → IsClear (step_fault s position h step)
-  step_clear position h (next waiting) = none
-  step_clear position h (trailing p) = none
-  step_clear position h (subcommand name) = none
-  step_clear position h value = go (arg_by_index s.rules position)
-    where
-      go : (o : Option Rule)
-          → IsClear (option_map_or (λ a. positional_fault s.rules s.args_override_self a h) o (stray_fault s))
-      go None = stray_clear s.is_leaf
-      go (Some a) = if_clear _ _ _ none (settle_clear s.rules s.args_override_self h)
+  step_clear position h step = grind (arith, common_steps, none, stray_clear, if_clear, settle_clear)
 
   turn_clear : (names : Names) (w : Walk) (word : Text) → IsClear (turn_fault s names w word)
-  turn_clear names w word =
-      let met = word_met s.rules names w.is_trailing w.waiting w.position word w.held in
-      if_clear _ _ _ none (or_else_clear (word_fault s names w.is_trailing w.waiting word w.held) _
-      (if_clear _ _ _ none (other_clear (subcommand_met names w.waiting word) word w.held))
-      (step_clear w.position met.0 met.1))
+  turn_clear names w word = grind (arith, common_steps, if_clear, none, or_else_clear, other_clear, step_clear)
 
   walk_clear : (names : Names) (w : Walk) (words : List Text) → IsClear (walk_fault s names w words)
   unfolding walk_fault
   walk_clear names w [] = none
   walk_clear names w (word ∷ rest) =
-      or_else_clear (turn_fault s names w word) _ (turn_clear names w word)
-      (walk_clear names (walked s.rules names w word) rest)
+      grind (arith, common_steps, or_else_clear, turn_clear, walk_clear names (walked s.rules names w word) rest)
 
   level_clear : (names : Names) (h : Held) (words : List Text) (has : Bool) (below : Kinds) → IsClear below
       → IsClear (level_fault s names h words has below)
   level_clear names h words has below clear =
-      let end = (walk s.rules names h words).held in
-      or_else_clear (walk_fault s names (walk_from h) words) _ (walk_clear names (walk_from h) words)
-      (or_else_clear below _ clear
-      (or_else_clear (settle_fault s.rules s.args_override_self end) _ (settle_clear s.rules s.args_override_self end)
-      (or_else_clear (defaults_fault _ s.rules) _ (defaults_clear s.rules s.args_override_self _ s.rules)
-      (check_clear _ _ _))))
+      grind (arith, common_steps, or_else_clear, walk_clear, settle_clear, defaults_clear, check_clear)
 
 -- ---- the command line
 

@@ -1,4 +1,5 @@
 -- The commands whose words have numbers ask for the task that their words spell.
+use Rattle.std.proofs.lemmas.Grind.{common_steps}
 use Rattle.std.proofs.Common.{◌≡◌, ◌≤◌, ℕ, Bool, true, false, not, ◌&&◌, ◌||◌, is_some, if◌then◌else◌, [], ◌∷◌, Option, Some, None, refl, ap, arith, codes, decimal}
 use Rattle.std.specs.Prelude.{option_map}
 use Rattle.clap.specs.Walk.{Walk}
@@ -34,9 +35,7 @@ module _ (n : ℕ) (times : IsText 18446744073709551615 0 18446744073709551615 n
 
   times_ask : (pgm : Bool) → Asks multiple_built (Multiple n pgm)
   unfolding past_times clap_on_literals
-  times_ask true =
-      asks _ (reads_then times_read (codes "--pgm") (rw times.passes refl)) refl refl (rw times.reads refl)
-  times_ask false = asks _ times_read (rw times.passes refl) refl (rw times.reads refl)
+  times_ask pgm = grind (arith, common_steps, asks, reads_then, times_read)
 
 pub multiple_asks : (n : ℕ) → n ≤ 18446744073709551615 → (pgm : Bool) → Asks multiple_built (Multiple n pgm)
 multiple_asks n within =
@@ -164,8 +163,7 @@ module _ (wish : Wish) (seed : IsSetting 0 4294967295 wish.seed) (droppers : IsS
 
   wish_is : with_settings (read wish.seed) (read wish.droppers) (read wish.drops) (read wish.epochs) (read wish.workers)
       (read wish.sweeps) (read wish.observers) ≡ Some wish
-  wish_is =
-      rw (seed.reads, droppers.reads, drops.reads, epochs.reads, workers.reads, sweeps.reads, observers.reads) refl
+  wish_is = grind (arith, common_steps)
 
   abbrev task_by : Bool → Form → Option Wish → Option Task
   task_by journal form = option_map (λ w. Lab w journal form)

@@ -5,8 +5,6 @@ mod Examples
 pub mod Free
 pub mod HelpAlone
 pub mod Levels
-pub mod Lines
-pub mod Listed
 pub mod Passing
 pub mod Reading
 pub mod NumberTexts

@@ -1,4 +1,5 @@
 -- What clap's getters return, in terms of the options.
+use Rattle.std.proofs.lemmas.Grind.{common_steps}
 use Rattle.std.proofs.Common.{◌≡◌, ◌≢◌, ◌∙◌, ℕ, Bool, true, false, cond, Option, Some, None, Result, Ok, Err, codes, refl, sym, ap, arith, ◌+◌, ◌^◌, ◌<◌, ◌≤◌}
 use Rattle.std.specs.Prelude.{option_and_then, unwrap_or}
 use Rattle.std.specs.Option.{option_map_or}
@@ -61,8 +62,4 @@ number_is E G bits most (Some t) r greatest fits only none some = go r (some t r
 -- a text that passed the parser of an option is a number in the option's range
 pub passed_number : (least most bound : ℕ) (text : Text) → most ≤ bound → is_unsigned_in least most text ≡ true
     → (number_of bound text ≡ Some (value_of text)) × (least ≤ value_of text) × (value_of text ≤ most)
-passed_number least most bound text wide passes =
-    let parts = accepts-Accepts false (parser.Unsigned least most) text passes in
-    let read : is_unsigned_in 0 bound text ≡ true =
-    Accepts-accepts false (parser.Unsigned 0 bound) text (parts.0, parts.1, omega arith, omega (arith, parts.3)) in
-    (ap (λ b. cond b (Some (value_of text)) None) read, parts.2, parts.3)
+passed_number least most bound text wide passes = grind (arith, common_steps, accepts-Accepts, Accepts-accepts)

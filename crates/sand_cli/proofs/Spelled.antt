@@ -1,6 +1,7 @@
 -- The words that spell a task ask for it.
-use Rattle.std.proofs.Common.{Err, Ok, is_some, ◌≡◌, ◌∙◌, Bool, true, false, List, [], ◌∷◌, Some, None, drop, fold, refl, sym, ap, ap₂}
-use Rattle.std.specs.Prelude.{find, option_and_then, option_map}
+use Rattle.std.proofs.lemmas.Grind.{common_steps}
+use Rattle.std.proofs.Common.{arith, Err, Ok, is_some, ◌≡◌, ◌∙◌, Bool, true, false, List, [], ◌∷◌, Some, None, drop, fold, refl, ap, ap₂}
+use Rattle.std.specs.Prelude.{find, option_map}
 use Rattle.std.specs.Option.{option_map_or}
 use Rattle.clap.specs.Faults.{check_fault, defaults_fault, entered_fault, level_fault, settle_fault, turn_fault, walk_fault}
 use Rattle.clap.specs.Kinds.{Kinds, or_else}
@@ -8,12 +9,11 @@ use Rattle.clap.specs.Simple.{App, Shape, built, entered, label_of, names_of, ro
 use Rattle.clap.specs.Walk.{Walk, answers_to, finished, nothing_held, settled, walked}
 use Rattle.clap.specs.Words.{Text}
 use Rattle.clap.proofs.OnLiterals.{clap_on_literals}
-use Rattle.sand_cli.specs.Asked.{IsWithin, asked, conflict_of, faults, task_named}
+use Rattle.sand_cli.specs.Asked.{IsWithin, asked, faults}
 use Rattle.sand_cli.specs.Fault.{IsUsage}
 use Rattle.sand_cli.specs.Line.{command_line}
 use Rattle.sand_cli.specs.Spelling.{Heeds, words_of}
 use Rattle.sand_cli.specs.declared.fault.WordsFault.{WordsFault}
-use Rattle.sand_cli.specs.declared.fault.WordsFault.TheVariants.{Clash, Memory, Usage}
 use Rattle.sand_cli.specs.declared.task.Form.TheVariants.{Graymap, Pile}
 use Rattle.sand_cli.specs.declared.task.Form.TheVariants as forms
 use Rattle.sand_cli.specs.declared.task.Part.TheVariants as parts
@@ -43,8 +43,7 @@ module _ (program : Text) (s : Shape) (task : Task)
 
   walk_passes : walk_fault line.top (names_of line) start (s.name ∷ words) ≡ []
   unfolding walk_fault
-  walk_passes = ap₂ or_else passes (ap (λ w. walk_fault line.top (names_of line) w words) met
-      ∙ passes_stopped line.top (names_of line) start s.name [] words)
+  walk_passes = grind (arith, common_steps, passes_stopped, start)
 
   named : subcommand_of command_line (program ∷ s.name ∷ words) ≡ Some (rows_at s words)
   unfolding command_line
@@ -68,9 +67,7 @@ module _ (program : Text) (s : Shape) (task : Task)
       (ap (λ o. is_some (option_map (λ x. rows_at x words) o)) found)
 
   command_asked : Asks s task → asked (program ∷ s.name ∷ words) ≡ Some task
-  command_asked asks =
-      taken_ask _ (no_faults asks.passes) (ap (option_and_then conflict_of) named ∙ asks.free)
-      ∙ (ap (option_and_then task_named) named ∙ asks.reads)
+  command_asked asks = grind (arith, common_steps, taken_ask, no_faults, named)
 
 -- the words that spell a task ask for it
 pub spelled_is_asked : (program : Text) (task : Task) → IsWithin task → asked (program ∷ words_of task) ≡ Some task
@@ -99,17 +96,9 @@ spelled_is_asked program (Lab wish journal form) within =
 
 -- so a parse to the task that is asked for heeds the spelling
 pub heeds_by_task : (words : List Text) (t : Task) → asked words ≡ Some t → Heeds words (Ok t)
-heeds_by_task words t is program task within same =
-    let both : Some t ≡ Some task = sym is ∙ (ap asked same ∙ spelled_is_asked program task within) in
-    cc
+heeds_by_task words t is program task within same = grind (arith, common_steps, spelled_is_asked)
 
 -- and words that spell a task fail only if memory runs out
 pub heeds_by_fault : (words : List Text) (fault : WordsFault) → (IsUsage fault → asked words ≡ None)
     → Heeds words (Err fault)
-heeds_by_fault words Memory none program task within same = refl
-heeds_by_fault words (Clash conflict) none program task within same =
-    let bad : None ≡ Some task = sym (none tt) ∙ (ap asked same ∙ spelled_is_asked program task within) in
-    cc
-heeds_by_fault words (Usage error) none program task within same =
-    let bad : None ≡ Some task = sym (none tt) ∙ (ap asked same ∙ spelled_is_asked program task within) in
-    cc
+heeds_by_fault words fault none program task within same = grind (arith, common_steps, spelled_is_asked)

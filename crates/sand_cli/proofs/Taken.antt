@@ -1,11 +1,11 @@
 -- The result of a parse, in terms of what clap guarantees.
-use Rattle.std.proofs.Common.{◌≡◌, ◌↔◌, ◌∙◌, inl, inr, true, List, [], ◌∷◌, Option, Some, None, ⊎_elim, refl, sym, ap, ap₂, subst}
+use Rattle.std.proofs.lemmas.Grind.{common_steps}
+use Rattle.std.proofs.Common.{arith, ◌≡◌, ◌↔◌, ◌∙◌, true, List, [], ◌∷◌, Option, Some, None, refl, sym, ap, ap₂, subst}
 use Rattle.std.specs.Prelude.{IfSome, option_and_then, option_map}
 use Rattle.clap.specs.Words.{App, HasKind, HasMatchesOf, IsAmong, Kinds, Text, fault_of, is_simple, is_simple_and_free, kind_of, subcommand_of, subcommand_rows_of, built}
 use Rattle.clap.specs.Simple.{argument_words, entered, label_of, rows_at}
 use Rattle.clap.specs.Walk.{answers_to}
 use Rattle.clap.specs.declared.error.Error.{Error}
-use Rattle.clap.specs.declared.error.kind.ErrorKind.TheVariants.{DisplayHelp}
 use Rattle.clap.specs.declared.parser.matches.ArgMatches.{ArgMatches}
 use Rattle.sand_cli.specs.Line.{command_line}
 use Rattle.sand_cli.specs.Asked.{AskForHelp, IsWithin, asked, conflict_among, conflict_of, faults, freely, task_named, unless}
@@ -35,18 +35,11 @@ pub fails_by_kind : (a : App) (words : List Text) (e : Error) (f : WordsFault)
     → a ≡ command_line
     → (is_simple_and_free a ≡ true → HasKind (fault_of a words) e)
     → IsFaultOf e f → IsOfKinds (faults words) f
-fails_by_kind a words e Memory line h is = tt
-fails_by_kind a words e (Usage kept) line h is =
-    let known : HasKind (faults words) e =
-    subst (λ b. HasKind (fault_of b words) e) line (h (ap is_simple_and_free line ∙ line_is_free)) in
-    subst (λ x. IsAmong (kind_of x) (faults words)) (sym is.0) (⊎_elim (λ memory. absurd (is.1 memory)) (λ k. k) known)
-fails_by_kind a words e (Clash conflict) line h is = absurd is
+fails_by_kind a words e f line h is = grind (arith, common_steps, line_is_free)
 
 -- and it reports no conflict
 pub tells_nothing : (among : Option Conflict) (e : Error) (f : WordsFault) → IsFaultOf e f → TellsConflict among f
-tells_nothing among e Memory is = tt
-tells_nothing among e (Usage kept) is = tt
-tells_nothing among e (Clash conflict) is = absurd is
+tells_nothing among e f is = grind (arith, common_steps)
 
 -- the task that is asked for, given the faults and the conflict of the words
 abbrev task_by : List Text → Kinds → Option Conflict → Option Task
@@ -68,20 +61,7 @@ refused_ask_nothing words (Usage error) h told usage = go (faults words) h
 -- rejected words show help if and only if they ask for it
 pub shows_help : (words : List Text) (f : WordsFault) → IsOfKinds (faults words) f → IsUsage f
     → ShowsHelp f ↔ AskForHelp words
-shows_help words Memory h usage = absurd usage
-shows_help words (Clash conflict) h usage =
-    ((λ shown. absurd shown), (λ alone. let bad : [] ≡ DisplayHelp ∷ [] = sym h ∙ alone in cc))
-shows_help words (Usage error) h usage = (shown, asked_for)
-  where
-    shown : kind_of error ≡ DisplayHelp → AskForHelp words
-    shown is = help_alone words (subst (λ k. IsAmong k (faults words)) is h)
-
-    only : IsAmong (kind_of error) (DisplayHelp ∷ []) → kind_of error ≡ DisplayHelp
-    only (inl is) = is
-    only (inr none) = absurd none
-
-    asked_for : AskForHelp words → kind_of error ≡ DisplayHelp
-    asked_for alone = only (subst (IsAmong (kind_of error)) alone h)
+shows_help words f h usage = grind (arith, common_steps, help_alone)
 
 -- words without faults or conflicts ask for what they name
 pub taken_ask : (words : List Text) → faults words ≡ [] → conflict_among words ≡ None

@@ -1,5 +1,6 @@
 -- Walks over words that a level of a parse reads without a fault.
-use Rattle.std.proofs.Common.{◌≡◌, ◌∙◌, false, cond, List, [], ◌∷◌, ◌++◌, Some, None, refl, sym, ap, ap₂, drop, fold, append_assoc, codes}
+use Rattle.std.proofs.lemmas.Grind.{common_steps}
+use Rattle.std.proofs.Common.{arith, ◌≡◌, ◌∙◌, false, cond, List, [], ◌∷◌, ◌++◌, Some, None, sym, ap, ap₂, drop, fold, append_assoc, codes}
 use Rattle.std.proofs.lemmas.List.{append-nil}
 use Rattle.std.specs.Option.{option_map_or}
 use Rattle.std.specs.Str.{bytes_eq}
@@ -7,7 +8,7 @@ use Rattle.clap.specs.Lexer.{long_of}
 use Rattle.clap.specs.Faults.{bundle_fault, check_fault, defaults_fault, flag_word_fault, level_fault, settle_fault, step_fault, turn_fault, walk_fault}
 use Rattle.clap.specs.Kinds.{Kinds, or_else}
 use Rattle.clap.specs.Simple.{Shape, rows_at}
-use Rattle.clap.specs.Walk.{Held, Row, Rule, Step, Walk, after_step, finished, idle, long_or_other, next, nothing_held, option, plain_word, rows_after, settled, short_or_plain, walk_from, walked, word_met}
+use Rattle.clap.specs.Walk.{Held, Row, Rule, Step, Walk, after_step, finished, idle, next, nothing_held, option, plain_word, rows_after, settled, walk_from, walked, word_met}
 use Rattle.clap.specs.Words.{Text}
 use Rattle.clap.specs.declared.builder.value_parser.Reading.TheVariants.{AsWritten}
 use Rattle.clap.specs.declared.parser.matches.ValueSource.TheVariants.{CommandLine}
@@ -48,8 +49,7 @@ reads_both {s} {u} {v} {w} {xs} {ys} first second = record {
 pub reads_then : {s : Shape} {u v : Walk} {xs : List Text}
     → Reads s u xs v → (word : Text) → turn_fault s [] v word ≡ []
     → Reads s u (xs ++ word ∷ []) (walked s.rules [] v word)
-reads_then {s} {u} {v} {xs} reads word passes =
-    reads_both reads (reads_word s v (walked s.rules [] v word) word passes refl)
+reads_then {s} {u} {v} {xs} reads word passes = grind (arith, common_steps, reads_both, reads_word)
 
 -- ---- an option and its value
 
@@ -75,10 +75,7 @@ given_row id text = record {
 -- a text that does not look like an option is the value of the option that waits for one
 value_met : (c : List Rule) (id text : Text) (h : Held) → IsNoOption text
     → word_met c [] false (option id) 1 text h ≡ plain_word c (option id) text h
-value_met c id text h plain =
-    ap (λ b. cond b (h, Step.trailing 1) (long_or_other c (option id) text (long_of text) h)) plain.no_end
-    ∙ (ap (λ o. long_or_other c (option id) text o h) plain.no_long
-    ∙ ap (λ o. short_or_plain c (option id) text o h) plain.no_short)
+value_met c id text h plain = grind (arith, common_steps)
 
 -- an option that takes one value, followed by that value
 pub reads_option : (s : Shape) (from : Walk) (rows : List Row) (id text : Text)
@@ -119,8 +116,7 @@ pub reads_next : (s : Shape) (rows : List Row) (before value id text : Text)
     → IsNoOption text
     → Reads s (given rows before value) ((45 ∷ 45 ∷ id) ∷ text ∷ [])
     (given (rows ++ given_row before value ∷ []) id text)
-reads_next s rows before value id text passes is takes plain =
-    reads_option s (given rows before value) (rows ++ given_row before value ∷ []) id text passes is takes plain
+reads_next s rows before value id text passes is takes plain = grind (arith, common_steps, reads_option)
 
 -- ---- the end
 

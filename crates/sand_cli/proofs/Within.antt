@@ -1,14 +1,14 @@
 -- If a command accepts its words and no options conflict, it asks for a task within the limits.
-use Rattle.std.proofs.Common.{◌≡◌, ◌≤◌, ℕ, Bool, true, false, cond, ◌&&◌, ◌||◌, List, [], ◌∷◌, Option, Some, None, refl, sym, ap, ap₂, subst, arith, rules, codes, true≢false}
-use Rattle.std.specs.Prelude.{IfSome, find, option_and_then, option_map, unwrap_or}
-use Rattle.std.specs.Str.{bytes_eq}
+use Rattle.std.proofs.lemmas.Grind.{common_steps}
+use Rattle.std.proofs.Common.{◌≡◌, ◌≤◌, ℕ, Bool, true, false, cond, ◌&&◌, List, [], ◌∷◌, Option, Some, None, refl, ap, ap₂, arith, rules, codes}
+use Rattle.std.specs.Prelude.{IfSome, option_map, unwrap_or}
 use Rattle.clap.specs.Words.{Row, Text}
 use Rattle.clap.specs.Simple.{Shape, built_leaf, rows_at}
 use Rattle.clap.specs.Takes.{is_given}
-use Rattle.clap.specs.Walk.{has_row, nothing_held, one_of, row_text, rows_after, settled, walk}
+use Rattle.clap.specs.Walk.{has_row, nothing_held, one_of, rows_after, settled, walk}
 use Rattle.sand_cli.specs.Asked.{GoTogether, IsDraw, IsWithin, conflict_of, draw_by, form_in, task_named, with_settings, with_sides}
 use Rattle.sand_cli.specs.Line.{drops_line, identity_line, lab_line, multiple_line}
-use Rattle.sand_cli.specs.Options.{flag_in, number_of, setting_in}
+use Rattle.sand_cli.specs.Options.{flag_in, setting_in}
 use Rattle.sand_cli.specs.declared.fault.Conflict.TheVariants.{PileAndJournal, PileAndGraymap, PileAndTable}
 use Rattle.sand_cli.specs.declared.task.Form.TheVariants.{Graymap, Pile}
 use Rattle.sand_cli.specs.declared.task.Form.TheVariants as forms
@@ -73,12 +73,7 @@ drops_takes = search (rules, arith)
 -- an option without a row has no text
 no_row : (id : Text) (rows : List Row) → has_row id rows ≡ false → one_of id rows ≡ None
 no_row id [] e = refl
-no_row id (r ∷ rs) e = go (no_row id rs) (bytes_eq r.id id) e
-  where
-    go : (has_row id rs ≡ false → one_of id rs ≡ None) → (own : Bool) → (own || has_row id rs) ≡ false
-        → option_and_then row_text (cond own (Some r) (find (λ x. bytes_eq x.id id) rs)) ≡ None
-    go later true f = absurd (true≢false f)
-    go later false f = later f
+no_row id (r ∷ rs) e = grind (arith, common_steps, no_row id rs)
 
 -- the number is in range, if there is one
 abbrev IsWord : Option ℕ → Type 0
@@ -87,28 +82,15 @@ IsWord given = IfSome given (λ n. n ≤ 4294967295)
 -- a number that is given is in range
 given_is_word : (name : Text) (rows : List Row)
     → (has_row name rows ≡ true → IsNumber 4294967295 0 4294967295 (one_of name rows)) → IsWord (setting_in name rows)
-given_is_word name rows read = go (has_row name rows) refl
-  where
-    go : (has : Bool) → has_row name rows ≡ has → IsWord (setting_in name rows)
-    go false none = subst IsWord (sym (ap (option_and_then (number_of 4294967295)) (no_row name rows none))) tt
-    go true has =
-        let number = read has in
-        subst IsWord (sym number.1) number.3
+given_is_word name rows read = grind (arith, common_steps, no_row)
 
 -- so is 0, the default
 usual_is_word : (given : Option ℕ) → IsWord given → unwrap_or given 0 ≤ 4294967295
-usual_is_word None h = omega arith
-usual_is_word (Some n) h = h
+usual_is_word given h = grind (arith, common_steps)
 
 draw_is_within : (count seed stream from : Option ℕ) → IsWord count → IsWord seed → IsWord stream → IsWord from
     → IfSome (draw_by count seed stream from) IsDraw
-draw_is_within None seed stream from c s k f = tt
-draw_is_within (Some count) seed stream from c s k f = record {
-  count = c;
-  seed = usual_is_word seed s;
-  stream = usual_is_word stream k;
-  from = usual_is_word from f;
-}
+draw_is_within count seed stream from c s k f = grind (arith, common_steps, usual_is_word)
 
 pub drops_within : (words : List Text) → AsksWithin words drops_built
 drops_within words passes free =
@@ -133,13 +115,7 @@ go_together : (pile pgm journal table : Bool)
     → cond (pile && pgm) (Some PileAndGraymap)
     (cond (pile && journal) (Some PileAndJournal) (cond (pile && table) (Some PileAndTable) None)) ≡ None
     → GoTogether journal (cond pile Pile (cond pgm Graymap forms.Text))
-go_together true true journal table free = cc
-go_together true false true table free = cc
-go_together true false false table free = tt
-go_together false true true table free = tt
-go_together false true false table free = tt
-go_together false false true table free = tt
-go_together false false false table free = tt
+go_together pile pgm journal table free = grind (arith, common_steps)
 
 pub lab_within : (words : List Text) → AsksWithin words lab_built
 lab_within words passes free =

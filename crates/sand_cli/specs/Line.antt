@@ -1,5 +1,5 @@
 -- The accepted command line, in terms of clap's model.
-use Rattle.std.specs.Prelude.{ℕ, ◌≡◌, List, [], ◌∷◌, ◌++◌, IfOk, Result, Some, codes, false, fold, true}
+use Rattle.std.specs.Prelude.{ℕ, ◌≡◌, [], ◌∷◌, IfOk, Result, Some, codes, false, fold, true}
 use Rattle.std.specs.declared.alloc.AllocError.{AllocError}
 use Rattle.clap.specs.Words.{App, Rule, Text, app_of, new_app, new_rule, with_rule, with_subcommand}
 use Rattle.clap.specs.Simple.{on_top}
@@ -22,13 +22,9 @@ number name least most = record (new_rule name) {
   parser = Some (parser.Unsigned least most);
 }
 
--- a side of a grid; required
-abbrev pub side : Text → Rule
-side name = record (number name 1 256) { required = true }
-
--- the number of copies of a pile; required
-abbrev pub times : Rule
-times = record (number (codes "times") 0 18446744073709551615) { required = true }
+-- an option with an integer from `least` to `most`; required
+abbrev pub required : Text → ℕ → ℕ → Rule
+required name least most = record (number name least most) { required = true }
 
 -- an option with an integer that defaults to `usual`
 abbrev pub setting : Text → ℕ → ℕ → Text → Rule
@@ -53,10 +49,11 @@ pgm_line name = with_rule (bare_line name) (flag (codes "pgm"))
 
 abbrev pub identity_line : App
 identity_line = fold with_rule (bare_line (codes "identity"))
-    (side (codes "width") ∷ side (codes "height") ∷ flag (codes "cylinder") ∷ flag (codes "pgm") ∷ [])
+    (required (codes "width") 1 256 ∷ required (codes "height") 1 256 ∷ flag (codes "cylinder") ∷ flag (codes "pgm") ∷ [])
 
 abbrev pub multiple_line : App
-multiple_line = fold with_rule (bare_line (codes "multiple")) (times ∷ flag (codes "pgm") ∷ [])
+multiple_line = fold with_rule (bare_line (codes "multiple"))
+    (required (codes "times") 0 18446744073709551615 ∷ flag (codes "pgm") ∷ [])
 
 abbrev pub lab_line : App
 lab_line = fold with_rule (bare_line (codes "lab")) (
@@ -78,16 +75,12 @@ wanting_command line = on_top (λ s. record s { subcommand_required = true; disa
 abbrev pub or_command : App → App → App
 or_command line command = with_subcommand line command.top
 
-abbrev pub first_four : List App
-first_four = settle_line ∷ bare_line (codes "burn") ∷ identity_line ∷ drops_line ∷ []
-
-abbrev pub next_four : List App
-next_four = pgm_line (codes "add") ∷ pgm_line (codes "inverse") ∷ multiple_line ∷ pgm_line (codes "recurrent") ∷ []
-
 -- `sandpile`, which requires one of its commands
 unfoldable pub command_line : App
-command_line = fold or_command (wanting_command (bare_line (codes "sandpile")))
-    (first_four ++ next_four ++ lab_line ∷ [])
+command_line = fold or_command (wanting_command (bare_line (codes "sandpile"))) (
+    settle_line ∷ bare_line (codes "burn") ∷ identity_line ∷ drops_line ∷ pgm_line (codes "add")
+    ∷ pgm_line (codes "inverse") ∷ multiple_line ∷ pgm_line (codes "recurrent") ∷ lab_line ∷ []
+    )
 
 -- the command has this line, and no global options
 pub record IsLine (command : Command) (line : App) : Type 0 where
@@ -101,8 +94,3 @@ IfLine command line = IfOk command (λ c. IsLine c line)
 -- the second command, if there is one, is the first with one more option
 abbrev pub AddsRule : Result Command AllocError → Result Command AllocError → Rule → Type 0
 AddsRule from to rule = (line : App) → IfLine from line → IfLine to (with_rule line rule)
-
--- the second command line, if there is one, is the first with more commands
-abbrev pub AddsCommands : Result Command AllocError → Result Command AllocError → List App → Type 0
-AddsCommands from to commands = (line : App) → IfOk from (λ c. app_of c ≡ line)
-    → IfOk to (λ c. app_of c ≡ fold or_command line commands)

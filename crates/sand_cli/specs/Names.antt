@@ -1,5 +1,5 @@
--- The names of the commands and of the options without a value: listed by hand, and taken from the command line.
-use Rattle.std.specs.Prelude.{Bool, true, false, ◌&&◌, ◌||◌, codes}
+-- The names of the commands and of the options without a value.
+use Rattle.std.specs.Prelude.{Bool, true, false, ◌&&◌}
 use Rattle.std.specs.List.{list_any}
 use Rattle.std.specs.Option.{option_map_or}
 use Rattle.std.specs.Str.{bytes_eq}
@@ -8,20 +8,9 @@ use Rattle.sand_cli.specs.Line.{command_line}
 use Rattle.clap.specs.declared.builder.action.ArgAction.{ArgAction}
 use Rattle.clap.specs.declared.builder.action.ArgAction.TheVariants.{SetTrue}
 
-abbrev pub is_listed : Text → Bool
-is_listed word =
-    bytes_eq word (codes "settle") || bytes_eq word (codes "burn") || bytes_eq word (codes "identity")
-    || bytes_eq word (codes "drops") || bytes_eq word (codes "add") || bytes_eq word (codes "inverse")
-    || bytes_eq word (codes "multiple") || bytes_eq word (codes "recurrent") || bytes_eq word (codes "lab")
-
 -- the command line has a command of this name
 abbrev pub is_command : Text → Bool
 is_command word = list_any (λ command. bytes_eq word command.name) command_line.subs
-
-abbrev pub is_listed_flag : Text → Bool
-is_listed_flag name =
-    bytes_eq name (codes "pile") || bytes_eq name (codes "pgm") || bytes_eq name (codes "cylinder")
-    || bytes_eq name (codes "table") || bytes_eq name (codes "journal")
 
 -- the option has no value
 abbrev pub sets_true : ArgAction → Bool

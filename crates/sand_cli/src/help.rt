@@ -290,6 +290,10 @@ pub(crate) const STREAM: &str = "Stream, up to 4294967295 [default: 0]";
 
 pub(crate) const FROM: &str = "Sites to skip, up to 4294967295 [default: 0]";
 
+// The option of `multiple`.
+
+pub(crate) const TIMES: &str = "N, the number of copies, up to 18446744073709551615";
+
 /// The name of a setting, and what it is.
 #[derive(Clone, Copy)]
 pub(crate) struct Setting(pub(crate) &'static str, pub(crate) &'static str);

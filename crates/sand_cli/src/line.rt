@@ -3,13 +3,12 @@
 //! Commands and options are large values. Functions that make them are not inlined, because a single stack frame with
 //! room for all of them would have 42 KB.
 
-ghost use Rattle.std.specs.Prelude.{◌≡◌, IfOk, Ok, codes, false};
-ghost use Rattle.clap.specs.Words.{AddsArg, AddsSubcommand, app_of, rule_of};
-ghost use Rattle.clap.specs.declared.builder.command.Command.{Command};
-ghost use Rattle.sand_cli.specs.Line.{AddsCommands, AddsRule, IfLine, IsLine, bare_line, command_line, drops_line, flag, next_four, identity_line, lab_line, multiple_line, number, pgm_line, first_four, setting, settle_line, side, times};
+ghost use Rattle.std.specs.Prelude.{◌≡◌, IfOk, codes, false};
+ghost use Rattle.clap.specs.Words.{App, Rule, app_of, rule_of};
+ghost use Rattle.sand_cli.specs.Line.{AddsRule, IfLine, IsLine, bare_line, command_line, drops_line, flag, identity_line, lab_line, multiple_line, number, or_command, pgm_line, required, setting, settle_line};
 
 use crate::help::{
-    self, DROPPERS, DROPS_OF_EACH, EPOCHS, Help, OBSERVERS, SEED, SWEEPS, Setting, WORKERS,
+    self, DROPPERS, DROPS_OF_EACH, EPOCHS, Help, OBSERVERS, SEED, SWEEPS, Setting, TIMES, WORKERS,
 };
 use clap::builder::ValueParser;
 use clap::{Arg, ArgAction, Command};
@@ -50,27 +49,12 @@ fn word<'a>(alloc: Global, name: &'a str, about: &'static str) -> Arg<'a>
     number(alloc, name, 0, 4294967295, about)
 }
 
-// A side of a grid; required.
-fn side<'a>(alloc: Global, name: &'a str, about: &'static str) -> Arg<'a>
-    ensures rule { rule_of result ≡ side name.entry.now }
+// An option with an integer from `least` to `most`; required.
+fn required<'a>(alloc: Global, name: &'a str, least: u64, most: u64, about: &'static str) -> Arg<'a>
+    ensures rule { rule_of result ≡ required name.entry.now least most }
     ensures local { result.global ≡ false }
 {
-    number(alloc, name, 1, 256, about).required(true)
-}
-
-// The number of copies of a pile; required.
-fn times<'a>(alloc: Global) -> Arg<'a>
-    ensures rule { rule_of result ≡ times }
-    ensures local { result.global ≡ false }
-{
-    number(
-        alloc,
-        "times",
-        0,
-        u64::MAX,
-        "N, the number of copies, up to 18446744073709551615",
-    )
-    .required(true)
+    number(alloc, name, least, most, about).required(true)
 }
 
 // A setting with an integer from `least` to `most` that defaults to `usual`.
@@ -103,7 +87,8 @@ fn with_option<'a>(
     line: Result<Command<'a>, AllocError>,
     option: Arg<'a>,
 ) -> Result<Command<'a>, AllocError>
-    ensures { IfOk result (λ new. (old : Command) × (line.entry ≡ Ok old) × AddsArg old option.entry new) }
+    ensures { (rule : Rule) → rule_of option.entry ≡ rule → option.entry.global ≡ false
+        → AddsRule line.entry result rule }
 {
     line?.arg(option)
 }
@@ -133,25 +118,17 @@ fn with_word<'a>(
 }
 
 #[inline(never)]
-fn with_side<'a>(
+fn with_required<'a>(
     alloc: Global,
     line: Result<Command<'a>, AllocError>,
     name: &'a str,
+    least: u64,
+    most: u64,
     about: &'static str,
 ) -> Result<Command<'a>, AllocError>
-    ensures { AddsRule line.entry result (side name.entry.now) }
+    ensures { AddsRule line.entry result (required name.entry.now least most) }
 {
-    with_option(line, side(alloc, name, about))
-}
-
-#[inline(never)]
-fn with_times<'a>(
-    alloc: Global,
-    line: Result<Command<'a>, AllocError>,
-) -> Result<Command<'a>, AllocError>
-    ensures { AddsRule line.entry result times }
-{
-    with_option(line, times(alloc))
+    with_option(line, required(alloc, name, least, most, about))
 }
 
 #[inline(never)]
@@ -168,29 +145,12 @@ fn with_setting<'a>(
     with_option(line, setting(alloc, named, least, most, usual))
 }
 
-fn with_pgm<'a>(
-    alloc: Global,
-    line: Result<Command<'a>, AllocError>,
-) -> Result<Command<'a>, AllocError>
-    ensures { AddsRule line.entry result (flag (codes "pgm")) }
-{
-    with_flag(alloc, line, "pgm", help::PGM)
-}
-
-fn with_pile<'a>(
-    alloc: Global,
-    line: Result<Command<'a>, AllocError>,
-) -> Result<Command<'a>, AllocError>
-    ensures { AddsRule line.entry result (flag (codes "pile")) }
-{
-    with_flag(alloc, line, "pile", help::PILE)
-}
-
 #[inline(never)]
 fn pgm_line<'a>(alloc: Global, name: &'a str, help: Help) -> Result<Command<'a>, AllocError>
     ensures { IfLine result (pgm_line name.entry.now) }
 {
-    with_pgm(alloc, Ok(bare_line(alloc, name, help)))
+    let line = Ok(bare_line(alloc, name, help));
+    with_flag(alloc, line, "pgm", help::PGM)
 }
 
 #[inline(never)]
@@ -198,8 +158,8 @@ fn settle_line<'a>(alloc: Global) -> Result<Command<'a>, AllocError>
     ensures { IfLine result settle_line }
 {
     let line = Ok(bare_line(alloc, "settle", help::SETTLE));
-    let line = with_pile(alloc, line);
-    with_pgm(alloc, line)
+    let line = with_flag(alloc, line, "pile", help::PILE);
+    with_flag(alloc, line, "pgm", help::PGM)
 }
 
 #[inline(never)]
@@ -212,7 +172,7 @@ fn drops_line<'a>(alloc: Global) -> Result<Command<'a>, AllocError>
     let line = with_word(alloc, line, "stream", help::STREAM);
     let line = with_word(alloc, line, "from", help::FROM);
     let line = with_flag(alloc, line, "table", "Write only the table");
-    with_pile(alloc, line)
+    with_flag(alloc, line, "pile", help::PILE)
 }
 
 #[inline(never)]
@@ -220,10 +180,24 @@ fn identity_line<'a>(alloc: Global) -> Result<Command<'a>, AllocError>
     ensures { IfLine result identity_line }
 {
     let line = Ok(bare_line(alloc, "identity", help::IDENTITY));
-    let line = with_side(alloc, line, "width", "Number of columns, from 1 to 256");
-    let line = with_side(alloc, line, "height", "Number of rows, from 1 to 256");
+    let line = with_required(
+        alloc,
+        line,
+        "width",
+        1,
+        256,
+        "Number of columns, from 1 to 256",
+    );
+    let line = with_required(
+        alloc,
+        line,
+        "height",
+        1,
+        256,
+        "Number of rows, from 1 to 256",
+    );
     let line = with_flag(alloc, line, "cylinder", "Make the rows wrap around");
-    with_pgm(alloc, line)
+    with_flag(alloc, line, "pgm", help::PGM)
 }
 
 #[inline(never)]
@@ -231,8 +205,8 @@ fn multiple_line<'a>(alloc: Global) -> Result<Command<'a>, AllocError>
     ensures { IfLine result multiple_line }
 {
     let line = Ok(bare_line(alloc, "multiple", help::MULTIPLE));
-    let line = with_times(alloc, line);
-    with_pgm(alloc, line)
+    let line = with_required(alloc, line, "times", 0, u64::MAX, TIMES);
+    with_flag(alloc, line, "pgm", help::PGM)
 }
 
 #[inline(never)]
@@ -248,8 +222,8 @@ fn lab_line<'a>(alloc: Global) -> Result<Command<'a>, AllocError>
     let line = with_setting(alloc, line, SWEEPS, 0, MOST_SWEEPS, "0");
     let line = with_setting(alloc, line, OBSERVERS, 0, MOST_OBSERVERS, "0");
     let line = with_flag(alloc, line, "journal", "Also write a line for each drop");
-    let line = with_pile(alloc, line);
-    with_pgm(alloc, line)
+    let line = with_flag(alloc, line, "pile", help::PILE);
+    with_flag(alloc, line, "pgm", help::PGM)
 }
 
 // Adds a command to the command line, if both are `Ok`.
@@ -257,38 +231,10 @@ fn with_command<'a>(
     line: Result<Command<'a>, AllocError>,
     command: Result<Command<'a>, AllocError>,
 ) -> Result<Command<'a>, AllocError>
-    ensures { IfOk result (λ new. (old : Command) × (sub : Command) × (line.entry ≡ Ok old) × (command.entry ≡ Ok sub)
-        × AddsSubcommand old sub new) }
+    ensures { (old sub : App) → IfOk line.entry (λ c. app_of c ≡ old) → IfLine command.entry sub
+        → IfOk result (λ c. app_of c ≡ or_command old sub) }
 {
     line?.subcommand(command?)
-}
-
-// Adds `settle`, `burn`, `identity` and `drops`.
-#[inline(never)]
-fn with_first_four<'a>(
-    alloc: Global,
-    line: Result<Command<'a>, AllocError>,
-) -> Result<Command<'a>, AllocError>
-    ensures { AddsCommands line.entry result first_four }
-{
-    let line = with_command(line, settle_line(alloc));
-    let line = with_command(line, Ok(bare_line(alloc, "burn", help::BURN)));
-    let line = with_command(line, identity_line(alloc));
-    with_command(line, drops_line(alloc))
-}
-
-// Adds `add`, `inverse`, `multiple` and `recurrent`.
-#[inline(never)]
-fn with_next_four<'a>(
-    alloc: Global,
-    line: Result<Command<'a>, AllocError>,
-) -> Result<Command<'a>, AllocError>
-    ensures { AddsCommands line.entry result next_four }
-{
-    let line = with_command(line, pgm_line(alloc, "add", help::ADD));
-    let line = with_command(line, pgm_line(alloc, "inverse", help::INVERSE));
-    let line = with_command(line, multiple_line(alloc));
-    with_command(line, pgm_line(alloc, "recurrent", help::RECURRENT))
 }
 
 /// The command line of `sandpile`.
@@ -299,7 +245,13 @@ pub(crate) fn command_line<'a>(alloc: Global) -> Result<Command<'a>, AllocError>
     let top = program_line(alloc)
         .subcommand_required(true)
         .disable_help_subcommand(true);
-    let line = with_first_four(alloc, Ok(top));
-    let line = with_next_four(alloc, line);
+    let line = with_command(Ok(top), settle_line(alloc));
+    let line = with_command(line, Ok(bare_line(alloc, "burn", help::BURN)));
+    let line = with_command(line, identity_line(alloc));
+    let line = with_command(line, drops_line(alloc));
+    let line = with_command(line, pgm_line(alloc, "add", help::ADD));
+    let line = with_command(line, pgm_line(alloc, "inverse", help::INVERSE));
+    let line = with_command(line, multiple_line(alloc));
+    let line = with_command(line, pgm_line(alloc, "recurrent", help::RECURRENT));
     with_command(line, lab_line(alloc))
 }

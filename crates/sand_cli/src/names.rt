@@ -1,10 +1,12 @@
 //! The names of commands and of options without a value, for what is said of words that the command line rejects.
 
 ghost use Rattle.std.specs.Prelude.{◌≡◌};
-ghost use Rattle.sand_cli.specs.Names.{is_command, is_flag, is_listed, is_listed_flag};
+ghost use Rattle.sand_cli.specs.Names.{is_command, is_flag};
 
-fn is_listed(word: &str) -> bool
-    ensures { result ≡ is_listed word.now }
+/// Whether a word is a command.
+#[tactic(auto, unfolding(crate::specs::Line::command_line))]
+pub fn is_command(word: &str) -> bool
+    ensures { result ≡ is_command word.now }
 {
     matches!(
         word,
@@ -20,22 +22,10 @@ fn is_listed(word: &str) -> bool
     )
 }
 
-/// Whether a word is a command.
-pub fn is_command(word: &str) -> bool
-    ensures { result ≡ is_command word.now }
-{
-    is_listed(word)
-}
-
-fn is_listed_flag(name: &str) -> bool
-    ensures { result ≡ is_listed_flag name.now }
-{
-    matches!(name, "pile" | "pgm" | "cylinder" | "table" | "journal")
-}
-
 /// Whether a name, without its dashes, is that of a command's option without a value.
+#[tactic(auto, unfolding(crate::specs::Line::command_line))]
 pub fn is_flag(name: &str) -> bool
     ensures { result ≡ is_flag name.now }
 {
-    is_listed_flag(name)
+    matches!(name, "pile" | "pgm" | "cylinder" | "table" | "journal")
 }

@@ -1,4 +1,5 @@
 -- The sites of a draw, read one by one.
+use Rattle.std.proofs.lemmas.Grind.{common_steps}
 use Rattle.std.proofs.Common.{◌≡◌, ◌∙◌, ◌+◌, ◌<◌, ◌≤◌, ℕ, zero, suc, [], ◌∷◌, ◌++◌, All, length, drop, refl, sym, ap, subst, arith, append_assoc, append-nil}
 use Rattle.std.proofs.Math.Nat.{mod-lt}
 use Rattle.std.proofs.lemmas.List.{drop-append-le, drop_all, length-drop}
@@ -43,14 +44,10 @@ module _ (sites seed stream : ℕ) where
       (drop a (stream_sites sites seed stream k)) (omega (arith, long, low))
 
   pub length-drawn : (from n k : ℕ) → from + n ≡ k → length (drop from (stream_sites sites seed stream k)) ≡ n
-  length-drawn from n k e =
-      let long = length-stream_sites sites seed stream k in
-      let left = length-drop from (stream_sites sites seed stream k) in omega (arith, long, left, e)
+  length-drawn from n k e = grind (arith, common_steps, length-stream_sites, length-drop)
 
   pub drawn_none : (from : ℕ) → drop from (stream_sites sites seed stream (from + 0)) ≡ []
-  drawn_none from =
-      let long = length-stream_sites sites seed stream (from + 0) in
-      drop_all from (stream_sites sites seed stream (from + 0)) (omega (arith, long))
+  drawn_none from = grind (arith, common_steps, length-stream_sites, drop_all)
 
   pub drawn_more : (from n site : ℕ) → site ≡ site_at sites seed stream (from + n)
       → drop from (stream_sites sites seed stream (from + (n + 1)))
@@ -66,9 +63,7 @@ module _ (sites seed stream : ℕ) where
   -- all sites are inside the grid
   sites_inside : 0 < sites → (k : ℕ) → All (λ j. j < sites) (stream_sites sites seed stream k)
   sites_inside some zero = All-nil (λ j. j < sites)
-  sites_inside some (suc k) =
-      All-push (λ j. j < sites) (stream_sites sites seed stream k)
-      (site_at sites seed stream k) (sites_inside some k) (mod-lt _ some)
+  sites_inside some (suc k) = grind (arith, common_steps, All-push, mod-lt, (sites_inside some k))
 
   pub drawn_inside : 0 < sites → (from k : ℕ) → All (λ j. j < sites) (drop from (stream_sites sites seed stream k))
   drawn_inside some from k = All-drop (λ j. j < sites) from (stream_sites sites seed stream k) (sites_inside some k)

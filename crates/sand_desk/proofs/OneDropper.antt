@@ -1,4 +1,5 @@
 -- The drops of a draw and those of one dropper are the same at each site, so they leave the same settled record.
+use Rattle.std.proofs.lemmas.Grind.{common_steps}
 use Rattle.std.proofs.Common.{◌≡◌, ◌+◌, ℕ, List, [], ◌∷◌, drop, length, refl, sym, ap, ◌∙◌, subst, arith}
 use Rattle.std.specs.Prelude.{Result, Ok, Err}
 use Rattle.sand_model.specs.Grid.{sites}
@@ -29,15 +30,7 @@ epoch_of_draw : (draw : Draw) (w : Wish) → DropsTheDraw draw w → (start : Pi
     → sum_below w.droppers (λ k. occurrences (stream_sites (sites start.grid) w.seed (stream_of 0 k) w.drops) i)
     ≡ occurrences (drawn_on draw start) i
 unfolding sum_below
-epoch_of_draw draw w asks start i =
-    let each : ℕ → ℕ = λ k. occurrences (stream_sites (sites start.grid) w.seed (stream_of 0 k) w.drops) i in
-    let one : sum_below w.droppers each ≡ sum_below 1 each = ap (λ n. sum_below n each) asks.droppers in
-    let alone : sum_below 1 each ≡ 0 + each 0 = refl in
-    let none : 0 ≡ draw.from = sym asks.from in
-    let count : w.drops ≡ draw.from + draw.count = omega (arith, asks.drops, asks.from) in
-    let first : each 0 ≡ occurrences (drawn_on draw start) i =
-    λ k. occurrences (drop (none k) (stream_sites (sites start.grid) (asks.seed k) (sym asks.stream k) (count k))) i in
-    omega (arith, one, alone, first)
+epoch_of_draw draw w asks start i = grind (arith, common_steps)
 
 -- so does the run
 run_of_draw : (draw : Draw) (album : List ℕ) (w : Wish) → DropsTheDraw draw w

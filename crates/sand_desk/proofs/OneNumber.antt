@@ -1,5 +1,6 @@
 -- A fault keeps its number when it becomes the program's.
-use Rattle.std.proofs.Common.{◌≡◌, refl}
+use Rattle.std.proofs.lemmas.Grind.{common_steps}
+use Rattle.std.proofs.Common.{arith, ◌≡◌, refl}
 use Rattle.sand_model.specs.declared.faults.ShapeFault.{ShapeFault}
 use Rattle.sand_model.specs.declared.faults.ShapeFault.TheVariants as shape
 use Rattle.sand_model.specs.Faults.{shape_fault_number}
@@ -22,42 +23,25 @@ use Rattle.sand_cli.specs.Fault.{words_fault_number}
 use Rattle.sand_desk.specs.Faults.{number_of, of_shape, of_one, of_group, of_text, of_read, of_stream, of_words, KeepNumbers}
 
 of_a_shape : (fault : ShapeFault) → number_of (of_shape fault) ≡ shape_fault_number fault
-of_a_shape shape.Side = refl
-of_a_shape shape.Narrow = refl
+of_a_shape fault = grind (arith, common_steps)
 
 of_one_pile : (fault : OneFault) → number_of (of_one fault) ≡ one_fault_number fault
-of_one_pile one.Full = refl
-of_one_pile (one.Memory refused) = refl
+of_one_pile fault = grind (arith, common_steps)
 
 of_the_group : (fault : GroupFault) → number_of (of_group fault) ≡ group_fault_number fault
-of_the_group group.Unstable = refl
-of_the_group group.NotRecurrent = refl
-of_the_group group.Shapes = refl
-of_the_group (group.Memory refused) = refl
+of_the_group fault = grind (arith, common_steps)
 
 of_a_text : (fault : TextFault) → number_of (of_text fault) ≡ text_fault_number fault
-of_a_text (text.Text offset) = refl
-of_a_text (text.TooLarge offset) = refl
-of_a_text text.Side = refl
-of_a_text text.Narrow = refl
-of_a_text text.Length = refl
-of_a_text text.TooManyGrains = refl
-of_a_text (text.NoSite index) = refl
+of_a_text fault = grind (arith, common_steps)
 
 of_a_reading : (fault : ReadFault) → number_of (of_read fault) ≡ read_fault_number fault
-of_a_reading read.Memory = refl
-of_a_reading (read.Text fault) = of_a_text fault
+of_a_reading fault = grind (arith, common_steps, of_a_text)
 
 of_a_stream : (fault : StreamFault) → number_of (of_stream fault) ≡ stream_fault_number fault
-of_a_stream stream.Memory = refl
-of_a_stream stream.Read = refl
-of_a_stream (stream.Write sent) = refl
-of_a_stream stream.TooLong = refl
+of_a_stream fault = grind (arith, common_steps)
 
 of_the_words : (fault : WordsFault) → number_of (of_words fault) ≡ words_fault_number fault
-of_the_words words.Memory = refl
-of_the_words (words.Usage error) = refl
-of_the_words (words.Clash conflict) = refl
+of_the_words fault = grind (arith, common_steps)
 
 pub one_number : KeepNumbers
 one_number = record {

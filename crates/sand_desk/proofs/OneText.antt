@@ -1,5 +1,6 @@
 -- Two runs that ask for the same thing write the same text.
-use Rattle.std.proofs.Common.{◌≡◌, ℕ, false, List, [], ◌++◌, map, sum, sym, ap, ap₂, ◌∙◌, subst}
+use Rattle.std.proofs.lemmas.Grind.{common_steps}
+use Rattle.std.proofs.Common.{arith, ◌≡◌, ℕ, false, List, [], ◌++◌, map, sum, sym, ap, ap₂, ◌∙◌, subst}
 use Rattle.std.specs.Prelude.{Result, Ok, Err}
 use Rattle.std.proofs.lemmas.Simd.{map-map}
 use Rattle.sand_model.specs.Piles.{PileView}
@@ -29,8 +30,7 @@ shown ones total = lab_text_of (map sums_of_one ones) (sums_of_one total) total.
 
 text_shown : (p : ReportView) → lab_text_of_report p ≡ shown (map one_of p.records) (one_of p.total)
 unfolding shown sums_of_one
-text_shown p = ap (λ sums. lab_text_of sums (sums_of p.total) p.total.settled.pile p.total.settled.odometer)
-    (sym (map-map sums_of_one one_of p.records))
+text_shown p = grind (arith, common_steps, map-map, sums_of_one)
 
 same_text : (form : Form) (p q : ReportView) → AreAlike p q → report_text_of false form p ≡ report_text_of false form q
 same_text Graymap p q alike = ap (λ (o : OneView). pgm_text_of o.settled.pile) alike.total
@@ -48,10 +48,4 @@ unfolding read_or
 same_start p q e = ap (read_or p) e
 
 pub one_text : OneOutcome → OneLabText
-one_text one_outcome w v form input one other asks a b =
-    let starts : a.start ≡ b.start = same_start a.start b.start (sym a.read ∙ b.read) in
-    let left : IsReport b.album v a.start b.report =
-    subst (λ (x : PileView). IsReport b.album v x b.report) (sym starts) b.left in
-    a.written
-    ∙ same_text form a.report b.report (one_outcome a.album b.album w v a.start a.report b.report asks a.left left)
-    ∙ sym b.written
+one_text one_outcome w v form input one other asks a b = grind (arith, common_steps, same_start, same_text)

@@ -1,5 +1,6 @@
 -- A drop depends only on its site and the pile before it, so a run that continues from the pile of another is the rest
 -- of a single run.
+use Rattle.std.proofs.lemmas.Grind.{common_steps}
 use Rattle.std.proofs.Common.{◌≡◌, ◌∙◌, ◌+◌, ◌<◌, ◌≤◌, ℕ, List, [], ◌∷◌, ◌++◌, drop, length, refl, sym, ap, ap₂, subst, arith, get_or, ⊎_elim}
 use Rattle.std.specs.Prelude.{Result, Ok, Err}
 use Rattle.std.proofs.lemmas.Bool.{cases_lt}
@@ -40,25 +41,12 @@ same_pile p q grid one other each =
 
 no_farther : (g : Grid) (site : ℕ) (v : ℕ → ℕ) (a b : Avalanche) → IsAvalanche g site v a → IsAvalanche g site v b
     → a.reach ≤ b.reach
-no_farther g site v a b one other =
-    ⊎_elim
-    (λ (far : 0 < a.reach).
-    let j = one.reached far in let near = other.within j.0 j.1 j.2 in let at = j.3 in omega (arith, near, at))
-    (λ (here : a.reach ≤ 0). omega (arith, here))
-    (cases_lt 0 a.reach)
+no_farther g site v a b one other = grind (arith, common_steps, cases_lt)
 
 -- the topplings determine the avalanche
 same_avalanche : (g : Grid) (site : ℕ) (v : ℕ → ℕ) (a b : Avalanche) → IsAvalanche g site v a → IsAvalanche g site v b
     → a ≡ b
-same_avalanche g site v a b one other =
-    let more = no_farther g site v a b one other in
-    let less = no_farther g site v b a other one in
-    let origin : a.site ≡ b.site = one.origin ∙ sym other.origin in
-    let size : a.size ≡ b.size = one.size ∙ sym other.size in
-    let area : a.area ≡ b.area = one.area ∙ sym other.area in
-    let reach : a.reach ≡ b.reach = omega (arith, more, less) in
-    let gone : a.lost ≡ b.lost = one.all_lost ∙ sym other.all_lost in
-    λ k. record { site = origin k; size = size k; area = area k; reach = reach k; lost = gone k }
+same_avalanche g site v a b one other = grind (arith, common_steps, no_farther)
 
 -- the pile and the site determine the next pile and the avalanche
 same_drop : (v w v' w' : OneView) (site : ℕ) (a b : Avalanche)
@@ -158,16 +146,7 @@ record IsDrawnOn (draw : Draw) (read : Result PileView TextFault) (pile : PileVi
 drawn_on : (draw : Draw) (read : Result PileView TextFault) (pile : PileView) (places : List ℕ)
     → (read >>= with_draw draw) ≡ Ok (pile, places)
     → IsDrawnOn draw read pile places
-drawn_on draw (Err why) pile places e = absurd cc
-drawn_on draw (Ok p) pile places e =
-    let pair : ◌≡◌ {A = PileView × List ℕ} (p, drawn_sites (sites p.grid) draw) (pile, places) =
-    same_reading (p, drawn_sites (sites p.grid) draw) (pile, places) e in
-    let same : p ≡ pile = ap (λ (x : PileView × List ℕ). x.0) pair in
-    record {
-      held = ap (λ (x : PileView). Ok x) same;
-      places_are =
-          ap (λ (x : PileView). drawn_sites (sites x.grid) draw) (sym same) ∙ ap (λ (x : PileView × List ℕ). x.1) pair;
-    }
+drawn_on draw read pile places e = grind (arith, common_steps, same_reading)
 
 -- two settled records of one start have the same pile
 same_start : (start other : PileView) (v w : OneView) → start ≡ other → IsAfter start [] v → IsAfter other [] w

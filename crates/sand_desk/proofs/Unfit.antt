@@ -1,5 +1,6 @@
 -- Why a sum is refused, given why one of its piles is.
-use Rattle.std.proofs.Common.{List, ℕ, inl, inr}
+use Rattle.std.proofs.lemmas.Grind.{common_steps}
+use Rattle.std.proofs.Common.{arith, List, ℕ, inl, inr}
 use Rattle.sand_group.specs.declared.faults.GroupFault.{GroupFault}
 use Rattle.sand_group.specs.declared.faults.GroupFault.TheVariants as group
 use Rattle.sand_desk.specs.Commands.{IsSumFault, Finds}
@@ -8,10 +9,4 @@ use Rattle.sand_desk.specs.GroupCommands.{IsUnfitPair}
 
 pub pair_refused : (input : List ℕ) (fault : GroupFault)
     → IsUnfitPair input fault → Finds (IsSumFault input) (of_group fault)
-pair_refused input group.Unstable why = why
-pair_refused input group.NotRecurrent why = why
-pair_refused input group.Shapes why = elim why.unfit [
-  | inl first ↦ absurd first
-  | inr second ↦ absurd second.1
-]
-pair_refused input (group.Memory error) why = tt
+pair_refused input fault why = grind (arith, common_steps)

@@ -68,28 +68,37 @@ pub enum DeskFault {
 }
 
 impl DeskFault {
+    // The number and the name.
+    fn row(&self) -> (u32, &'static str)
+        ensures number { result.0 ≡ number_of self.now }
+        ensures name { result.1.now ≡ name_of self.now }
+        ensures short { length result.1.now ≤ 16 }
+    {
+        match self {
+            DeskFault::Side => (1, "Side"),
+            DeskFault::Length => (2, "Length"),
+            DeskFault::TooManyGrains => (3, "TooManyGrains"),
+            DeskFault::Memory => (4, "Memory"),
+            DeskFault::Full => (6, "Full"),
+            DeskFault::Unstable => (7, "Unstable"),
+            DeskFault::NotRecurrent => (8, "NotRecurrent"),
+            DeskFault::Shapes => (9, "Shapes"),
+            DeskFault::Taken => (17, "Taken"),
+            DeskFault::Text(_) => (18, "Text"),
+            DeskFault::TooLarge(_) => (19, "TooLarge"),
+            DeskFault::Read => (20, "Read"),
+            DeskFault::Write(_) => (21, "Write"),
+            DeskFault::TooLong => (22, "TooLong"),
+            DeskFault::Usage(_) | DeskFault::Clash(_) => (23, "Usage"),
+            DeskFault::Narrow => (24, "Narrow"),
+            DeskFault::NoSite(_) => (25, "NoSite"),
+        }
+    }
+
     pub fn number(&self) -> u32
         ensures { result ≡ number_of self.now }
     {
-        match self {
-            DeskFault::Side => 1,
-            DeskFault::Length => 2,
-            DeskFault::TooManyGrains => 3,
-            DeskFault::Memory => 4,
-            DeskFault::Full => 6,
-            DeskFault::Unstable => 7,
-            DeskFault::NotRecurrent => 8,
-            DeskFault::Shapes => 9,
-            DeskFault::Taken => 17,
-            DeskFault::Text(_) => 18,
-            DeskFault::TooLarge(_) => 19,
-            DeskFault::Read => 20,
-            DeskFault::Write(_) => 21,
-            DeskFault::TooLong => 22,
-            DeskFault::Usage(_) | DeskFault::Clash(_) => 23,
-            DeskFault::Narrow => 24,
-            DeskFault::NoSite(_) => 25,
-        }
+        self.row().0
     }
 }
 
@@ -210,31 +219,6 @@ pub fn status(fault: &DeskFault) -> u8
     }
 }
 
-fn name(fault: &DeskFault) -> &'static str
-    ensures name { result.now ≡ name_of fault.now }
-    ensures short { length result.now ≤ 16 }
-{
-    match fault {
-        DeskFault::Side => "Side",
-        DeskFault::Length => "Length",
-        DeskFault::TooManyGrains => "TooManyGrains",
-        DeskFault::Memory => "Memory",
-        DeskFault::Full => "Full",
-        DeskFault::Unstable => "Unstable",
-        DeskFault::NotRecurrent => "NotRecurrent",
-        DeskFault::Shapes => "Shapes",
-        DeskFault::Taken => "Taken",
-        DeskFault::Text(_) => "Text",
-        DeskFault::TooLarge(_) => "TooLarge",
-        DeskFault::Read => "Read",
-        DeskFault::Write(_) => "Write",
-        DeskFault::TooLong => "TooLong",
-        DeskFault::Usage(_) | DeskFault::Clash(_) => "Usage",
-        DeskFault::Narrow => "Narrow",
-        DeskFault::NoSite(_) => "NoSite",
-    }
-}
-
 /// The maximum length of a fault's line, in bytes.
 const LINE_ROOM: usize = 64;
 
@@ -270,10 +254,11 @@ fn line_of(fault: &DeskFault) -> ArrayString<LINE_ROOM>
 {
     let mut line = ArrayString::new();
     let mut buffer = Buffer::new();
+    let (number, name) = fault.row();
     push(&mut line, "fault ");
-    push(&mut line, buffer.format(fault.number()));
+    push(&mut line, buffer.format(number));
     push(&mut line, " ");
-    push(&mut line, name(fault));
+    push(&mut line, name);
     push_place(&mut line, fault);
     push(&mut line, "\n");
     line

@@ -52,10 +52,7 @@ pub(crate) fn is_run<T: Threads + Sync, W: Write>(
     if words.is_empty() {
         return Err("no words".into());
     }
-    let mut reader = Failing {
-        bytes: b"1 1\n0\n",
-        fails: false,
-    };
+    let mut reader = Failing(b"1 1\n0\n", false);
     let ended = run_gated_command(rt, alloc, gate, words.as_slice(), &mut reader, writer);
     let is_done = ended.is_ok() && !gate.astray.load(SeqCst);
     drop((ended, words));
@@ -71,19 +68,14 @@ fn turns_of<T: Threads + Sync>(rt: &T, alloc: Global, line: &str) -> Result<Opti
 }
 
 #[test]
-fn a_gate_is_called_before_each_drop_at_random(rt: HostRuntime) -> Result<(), Fail> {
-    for part in ["", " --table", " --pile"] {
-        let mut line = String::new(rt.alloc());
-        line.push_str("sandpile drops --count 7 --from 5")?;
-        line.push_str(part)?;
-        assert_eq!(rt; turns_of(&rt, rt.alloc(), line.as_str())?, Some(7));
+fn a_gate_is_called_before_each_drop(rt: HostRuntime) -> Result<(), Fail> {
+    for line in [
+        "sandpile drops --count 7 --from 5",
+        "sandpile drops --count 7 --from 5 --table",
+        "sandpile drops --count 7 --from 5 --pile",
+        "sandpile lab --droppers 1 --drops 7",
+    ] {
+        assert_eq!(rt; turns_of(&rt, rt.alloc(), line)?, Some(7), "{line}");
     }
-    Ok(())
-}
-
-#[test]
-fn a_gate_is_that_of_the_laboratory(rt: HostRuntime) -> Result<(), Fail> {
-    let line = "sandpile lab --droppers 1 --drops 7";
-    assert_eq!(rt; turns_of(&rt, rt.alloc(), line)?, Some(7));
     Ok(())
 }

@@ -13,10 +13,7 @@ fn helps<T: Threads + Sync>(
     alloc: Global,
     writer: &mut Sluggish,
 ) -> Result<Option<usize>, Fail> {
-    let mut reader = Failing {
-        bytes: b"",
-        fails: true,
-    };
+    let mut reader = Failing(b"", true);
     let asked = fault_of(rt, alloc, "sandpile settle --help", &mut reader, writer)?;
     match show_help(alloc, asked, writer) {
         Ok(()) => Ok(None),

@@ -4,26 +4,18 @@ use sand_desk::{DeskFault, read_drops, read_pile, read_two, status, write_fault}
 use std::alloc::Global;
 use std::test::Fail;
 
-// The line that reports a fault, if the program ends with status 1.
-fn line_of(alloc: Global, fault: &DeskFault) -> Option<Vec<u8>> {
+/// Whether this line reports a fault, and the program ends with status 1.
+pub(crate) fn has_line(alloc: Global, fault: &DeskFault, line: &str) -> bool {
     if fault.number() == 23 || status(fault) != 1 {
-        return None;
+        return false;
     }
-    let mut line = Vec::new(alloc);
-    write_fault(fault, &mut line).ok()?;
-    Some(line)
+    let mut actual = Vec::new(alloc);
+    write_fault(fault, &mut actual).is_ok() && actual.as_slice() == line.as_bytes()
 }
 
 // Whether parsing failed with the fault of this line.
 fn is_refused<T: Drop>(alloc: Global, read: Result<T, DeskFault>, line: &str) -> bool {
-    match read {
-        Ok(_) => false,
-        Err(fault) => {
-            let actual = line_of(alloc, &fault);
-            drop(fault);
-            actual.is_some_and(|actual| actual.as_slice() == line.as_bytes())
-        }
-    }
+    read.is_err_and(|fault| has_line(alloc, &fault, line))
 }
 
 #[test]

@@ -33,10 +33,8 @@ pub(crate) fn fault_of<T: Threads + Sync, R: Read>(
     reader: &mut R,
     writer: &mut Sluggish,
 ) -> Result<DeskFault, Fail> {
-    match ended(rt, alloc, line, reader, writer)? {
-        Ok(()) => Err("no fault".into()),
-        Err(fault) => Ok(fault),
-    }
+    let ended = ended(rt, alloc, line, reader, writer)?;
+    Ok(ended.err().ok_or("no fault")?)
 }
 
 // Runs a command line that must succeed.
@@ -47,21 +45,14 @@ pub(crate) fn passes<T: Threads + Sync, R: Read>(
     reader: &mut R,
     writer: &mut Sluggish,
 ) -> Result<(), Fail> {
-    match ended(rt, alloc, line, reader, writer)? {
-        Ok(()) => Ok(()),
-        Err(fault) => {
-            drop(fault);
-            Err("a fault".into())
-        }
-    }
+    let ended = ended(rt, alloc, line, reader, writer)?;
+    Ok(ended.ok().ok_or("a fault")?)
 }
 
 // The number of bytes written before the writer failed, if that is the fault.
 pub(crate) fn sent(fault: DeskFault) -> Option<usize> {
-    let sent = match &fault {
-        DeskFault::Write(after) => Some(*after),
+    match fault {
+        DeskFault::Write(after) => Some(after),
         _ => None,
-    };
-    drop(fault);
-    sent
+    }
 }

@@ -58,44 +58,39 @@ impl Write for Sluggish {
     }
 }
 
-/// Gives one byte per call; then fails or ends.
+/// Gives these bytes, one per call; then fails, if told to, or ends.
 #[derive(Drop)]
-pub struct Failing<'a> {
-    pub bytes: &'a [u8],
-    pub fails: bool,
-}
+pub struct Failing<'a>(pub &'a [u8], pub bool);
 
 impl Read for Failing<'_> {
-    ghost remaining = { λ r. Some r.bytes.now };
+    ghost remaining = { λ r. Some r.0.now };
 
     fn read(&mut self, room: &mut [u8]) -> io::Result<usize> {
-        let (Some(slot), [first, rest @ ..]) = (room.first_mut(), self.bytes) else {
-            return if self.fails {
+        let (Some(slot), [first, rest @ ..]) = (room.first_mut(), self.0) else {
+            return if self.1 {
                 Err(io::Error::from(ErrorKind::Other))
             } else {
                 Ok(0)
             };
         };
         *slot = *first;
-        self.bytes = rest;
+        self.0 = rest;
         Ok(1)
     }
 }
 
-/// Gives as many bytes as requested; then fails.
+/// Gives as many of these bytes as requested; then fails.
 #[derive(Drop)]
-pub struct Cut<'a> {
-    pub bytes: &'a [u8],
-}
+pub struct Cut<'a>(pub &'a [u8]);
 
 impl Read for Cut<'_> {
-    ghost remaining = { λ r. Some r.bytes.now };
+    ghost remaining = { λ r. Some r.0.now };
 
     fn read(&mut self, room: &mut [u8]) -> io::Result<usize> {
-        if self.bytes.is_empty() {
+        if self.0.is_empty() {
             return Err(io::Error::from(ErrorKind::Other));
         }
-        self.bytes.read(room)
+        self.0.read(room)
     }
 }
 

@@ -2,7 +2,6 @@
 
 use crate::runs::{fault_of, passes, sent};
 use crate::stopping::{Cut, Endless, Failing, Sluggish};
-use sand_desk::DeskFault;
 use std::alloc::Global;
 use std::io::Read;
 use std::process::Abort;
@@ -13,6 +12,8 @@ use std::thread::Threads;
 const READ: Option<u32> = Some(20);
 
 const TOO_LONG: Option<u32> = Some(22);
+
+const SETTLE: &str = "sandpile settle";
 
 const PILE: &[u8] = b"3 1\n0 4 0\n";
 
@@ -33,10 +34,7 @@ fn stops<T: Threads + Sync + Abort>(
     taken: &[u8],
     is_full: bool,
 ) -> Result<(), Fail> {
-    let mut reader = Failing {
-        bytes,
-        fails: false,
-    };
+    let mut reader = Failing(bytes, false);
     let mut writer = Sluggish::new(alloc, taken.len());
     writer.is_full = is_full;
     let fault = fault_of(rt, alloc, line, &mut reader, &mut writer)?;
@@ -48,7 +46,7 @@ fn stops<T: Threads + Sync + Abort>(
 #[test]
 fn a_writer_that_stops(rt: HostRuntime) -> Result<(), Fail> {
     for (line, stdin, stdout) in [
-        ("sandpile settle", PILE, SETTLED),
+        (SETTLE, PILE, SETTLED),
         (
             "sandpile lab --droppers 1 --drops 2 --journal",
             b"1 1\n0\n",
@@ -77,10 +75,7 @@ const FULL: &[u8] = b"2 2\n3 3\n3 3\n";
 #[test]
 fn a_writer_that_stops_in_a_later_block(rt: HostRuntime) -> Result<(), Fail> {
     let mut whole = Sluggish::new(rt.alloc(), 1_000_000);
-    let mut reader = Failing {
-        bytes: FULL,
-        fails: false,
-    };
+    let mut reader = Failing(FULL, false);
     passes(&rt, rt.alloc(), LONG, &mut reader, &mut whole)?;
     let text = whole.taken.as_slice();
     assert!(rt; text.len() > 131_072 + 5_376);
@@ -94,16 +89,6 @@ fn a_writer_that_stops_in_a_later_block(rt: HostRuntime) -> Result<(), Fail> {
     Ok(())
 }
 
-// The fault of `settle` on a reader's pile, with a writer that has room for the text.
-fn settled<T: Threads + Sync, R: Read>(
-    rt: &T,
-    alloc: Global,
-    reader: &mut R,
-    writer: &mut Sluggish,
-) -> Result<DeskFault, Fail> {
-    fault_of(rt, alloc, "sandpile settle", reader, writer)
-}
-
 // The number of the fault of `settle`, if nothing was written.
 fn unwritten<T: Threads + Sync, R: Read>(
     rt: &T,
@@ -111,7 +96,7 @@ fn unwritten<T: Threads + Sync, R: Read>(
     reader: &mut R,
 ) -> Result<Option<u32>, Fail> {
     let mut writer = Sluggish::new(alloc, 100);
-    let fault = settled(rt, alloc, reader, &mut writer)?;
+    let fault = fault_of(rt, alloc, SETTLE, reader, &mut writer)?;
     let number = fault.number();
     drop(fault);
     Ok(writer.taken.is_empty().then_some(number))
@@ -119,39 +104,24 @@ fn unwritten<T: Threads + Sync, R: Read>(
 
 #[test]
 fn a_writer_that_cannot_flush(rt: HostRuntime) -> Result<(), Fail> {
-    let mut reader = Failing {
-        bytes: PILE,
-        fails: false,
-    };
+    let mut reader = Failing(PILE, false);
     let mut writer = Sluggish::new(rt.alloc(), 100);
     writer.flushes = false;
-    let fault = settled(&rt, rt.alloc(), &mut reader, &mut writer)?;
+    let fault = fault_of(&rt, rt.alloc(), SETTLE, &mut reader, &mut writer)?;
     assert_eq!(rt; sent(fault), Some(44));
     assert_eq!(rt; writer.taken.as_slice(), SETTLED);
     Ok(())
 }
 
+// It gives one byte per call, or as many as requested.
 #[test]
 fn a_reader_that_fails_after_some_bytes(rt: HostRuntime) -> Result<(), Fail> {
     for count in 0..PILE.len() + 1 {
-        let mut reader = Failing {
-            bytes: &PILE[..count],
-            fails: true,
-        };
-        let number = unwritten(&rt, rt.alloc(), &mut reader)?;
+        let bytes = &PILE[..count];
+        let number = unwritten(&rt, rt.alloc(), &mut Failing(bytes, true))?;
         assert_eq!(rt; number, READ, "after {count}");
-    }
-    Ok(())
-}
-
-#[test]
-fn a_reader_that_fails_at_its_first_or_second_call(rt: HostRuntime) -> Result<(), Fail> {
-    for count in 0..PILE.len() + 1 {
-        let mut reader = Cut {
-            bytes: &PILE[..count],
-        };
-        let number = unwritten(&rt, rt.alloc(), &mut reader)?;
-        assert_eq!(rt; number, READ, "after {count}");
+        let number = unwritten(&rt, rt.alloc(), &mut Cut(bytes))?;
+        assert_eq!(rt; number, READ, "in the first or second call, after {count}");
     }
     Ok(())
 }

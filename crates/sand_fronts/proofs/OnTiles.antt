@@ -3,7 +3,7 @@ use Rattle.std.proofs.Common.{ℕ, true, false, cond, ◌≡◌, ◌+◌, ◌*�
 use Rattle.std.proofs.lemmas.Bool.{cases_Bool}
 use Rattle.std.proofs.lemmas.Bool.Decides.{nat_tests}
 use Rattle.std.proofs.lemmas.Nat.{div-mul-add, mod-mul-add, div-add-mod', mul-add-lt, div_below}
-use Rattle.sand_model.specs.Grid.{Grid, sites}
+use Rattle.sand_model.specs.Grid.{Grid, sites, column}
 use Rattle.sand_model.specs.Sand.{one_at}
 use Rattle.sand_fronts.specs.Tiling.{pitch, tile_of, place_of, row_at, column_at, is_site, site_on, on_tiles}
 use Rattle.sand_fronts.specs.Waves.{at_site}
@@ -44,6 +44,10 @@ pub in_grid : (g : Grid) (k p : ℕ) → is_site g k p ≡ true
 unfolding is_site
 in_grid g k p is = grind (arith, nat_tests)
 
+pub column_there : (g : Grid) (k p : ℕ) → is_site g k p ≡ true → column g (site_on g k p) ≡ column_at g k p
+unfolding site_on
+column_there g k p is = mod-mul-add (row_at g k p) g.width (column_at g k p) (in_grid g k p is).3
+
 -- from a place that is a site to the site, and back
 pub there_again : (g : Grid) (k p : ℕ) → p < 64 → is_site g k p ≡ true
     → (site_on g k p < sites g) × (tile_of g (site_on g k p) ≡ k) × (place_of g (site_on g k p) ≡ p)
@@ -55,7 +59,7 @@ there_again g k p low is =
     let r = row_at g k p in
     let c = column_at g k p in
     let rd : (r * w + c) / w ≡ r = div-mul-add r w c bounds.3 in
-    let cd : (r * w + c) % w ≡ c = mod-mul-add r w c bounds.3 in
+    let cd = column_there g k p is in
     let r8 : r / 8 + 2 ≡ k / pitch g = omega arith in
     let c8 : c / 8 + 1 ≡ k % pitch g = omega arith in (
       mul-add-lt r w c g.height bounds.2 bounds.3,

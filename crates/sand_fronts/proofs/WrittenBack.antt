@@ -1,7 +1,7 @@
 -- Heights and an odometer by site that follow what topples on tiles.
 use Rattle.std.proofs.Common.{ℕ, List, get_or, refl, ◌≡◌, ◌≢◌, ◌+◌, ◌*◌, ◌<◌, ◌≤◌, sym, ◌∙◌, arith}
 use Rattle.std.proofs.lemmas.Bool.Decides.{nat_tests}
-use Rattle.sand_model.specs.Grid.{Grid, sites}
+use Rattle.sand_model.specs.Grid.{Grid, sites, column}
 use Rattle.sand_model.specs.Sand.{one_at}
 use Rattle.sand_model.proofs.Flow.{flow_same, flow-add, flow_none}
 use Rattle.sand_tiles.specs.Places.{bit}
@@ -9,7 +9,7 @@ use Rattle.sand_tiles.specs.Counts.{Count, counted}
 use Rattle.sand_tiles.proofs.Bits.{bit_le}
 use Rattle.sand_fronts.specs.declared.counts.Counts.{Counts}
 use Rattle.sand_fronts.specs.Boards.{counts_of, AreCleared}
-use Rattle.sand_fronts.specs.Tiling.{tile_of, place_of}
+use Rattle.sand_fronts.specs.Tiling.{tile_of, place_of, column_at}
 use Rattle.sand_fronts.specs.WrittenBack.{risen, AreLow, Follows}
 use Rattle.sand_fronts.proofs.Gained.{changed_each}
 use Rattle.sand_fronts.proofs.Reached.{IsTaken}
@@ -59,6 +59,7 @@ pub record IsNext (g : Grid) (k place rest next site : ℕ) : Type 0 where
   pub inside : site < sites g
   pub tile : tile_of g site ≡ k
   pub at_place : place_of g site ≡ place
+  pub at_column : column g site ≡ column_at g k place
 
 pub tile_more : {g : Grid} {k place set rest next site : ℕ} {c : Count} {u v : List ℕ} (w : List ℕ)
     → TileWritten g k c set rest u v → IsNext g k place rest next site

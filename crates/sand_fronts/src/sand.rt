@@ -144,7 +144,9 @@ impl Sand {
         self.hand_over(free, &board.beside(k, open_row), new_two);
     }
 
-    /// One wave: the dropped site topples, then each other site that this brings to 4, once each. Lists their tiles.
+    /// One wave: the dropped site topples, then each other site that this brings to 4, once each. Lists their tiles. It
+    /// is not inlined, so that the registers hold what its turns need.
+    #[inline(never)]
     pub(crate) fn topple_wave(&mut self, board: &Board, drop: DropSite)
         requires drop { IsDropSite board.now.shape drop }
         requires board { IsBoard board.now }

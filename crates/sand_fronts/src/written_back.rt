@@ -5,7 +5,7 @@
 //! drop each height is at most 3: it is known if it is known modulo 4. So the sites may be written in any order.
 
 ghost use Rattle.std.specs.Prelude.{◌≡◌, ℕ, ◌+◌, ◌*◌, ◌/◌, ◌%◌, ◌^◌, ◌<◌, ◌≤◌, true, length, slice_index, None, IfSome};
-ghost use Rattle.sand_model.specs.Grid.{sites};
+ghost use Rattle.sand_model.specs.Grid.{sites, column};
 ghost use Rattle.sand_model.specs.Sand.{one_at, value_at};
 ghost use Rattle.sand_tiles.specs.Places.{bit};
 ghost use Rattle.sand_tiles.specs.Counts.{counted};
@@ -43,10 +43,18 @@ fn site_in(shape: Shape, corner: Spot, place: usize) -> usize
     (corner.row + place / 8) * shape.width() + (corner.column + place % 8)
 }
 
-// Adds topplings of a site to the odometer, and gives their grains to its neighbours.
+// Adds topplings of a site in column `x` to the odometer, and gives their grains to its neighbours.
 #[inline(always)]
-fn write_site(shape: Shape, heights: &mut [u64], odometer: &mut [u64], site: usize, times: u64)
+fn write_site(
+    shape: Shape,
+    heights: &mut [u64],
+    odometer: &mut [u64],
+    x: usize,
+    site: usize,
+    times: u64,
+)
     requires site { site < sites shape }
+    requires column { x ≡ column shape site }
     requires len { (length heights.old ≡ sites shape) × (length odometer.old ≡ sites shape) }
     requires bound { (times < 2 ^ 60) × (slice_index odometer.old site < 2 ^ 60) }
     requires low { AreLow heights.old }
@@ -54,7 +62,7 @@ fn write_site(shape: Shape, heights: &mut [u64], odometer: &mut [u64], site: usi
     ensures follows { Follows shape heights.old heights.new odometer.old odometer.new }
 {
     odometer[site] += times;
-    let [north, west, east, south] = shape.neighbours(site);
+    let [north, west, east, south] = shape.neighbours_in(x, site);
     give(heights, north, times);
     give(heights, west, times);
     give(heights, east, times);
@@ -87,7 +95,8 @@ fn write_tile(
         let place = rest.trailing_zeros() as usize;
         rest ^= set_of(place);
         let site = site_in(shape, corner, place);
-        write_site(shape, heights, odometer, site, counts.times(k, place));
+        let x = corner.column + place % 8;
+        write_site(shape, heights, odometer, x, site, counts.times(k, place));
     }
 }
 

@@ -1,13 +1,11 @@
 -- The identity from topplings that empty it: a pile that some topplings take to all 0 is equivalent to all 0.
-use Rattle.std.proofs.Common.{ℕ, ◌≡◌, ◌≤◌, refl, arith, List, length, sum, All}
+use Rattle.std.proofs.Common.{ℕ, ◌≡◌, refl, arith, length}
 use Rattle.std.specs.Prelude.{pos}
 use Rattle.std.proofs.lemmas.Int.{ints}
-use Rattle.std.proofs.lemmas.List.Sums.{sum_by-le}
-use Rattle.sand_model.specs.Grid.{Grid, IsGrid, sites}
+use Rattle.sand_model.specs.Grid.{Grid, sites}
 use Rattle.sand_model.specs.Sand.{IsToppled}
 use Rattle.sand_model.specs.Integers.{whole, IsEquivalent}
-use Rattle.sand_model.specs.Piles.{PileView, height_of, most_grains}
-use Rattle.sand_model.proofs.Bounds.{sites_limit}
+use Rattle.sand_model.specs.Piles.{PileView, height_of}
 use Rattle.sand_model.proofs.OverIntegers.{toppled_is_integers}
 use Rattle.sand_model.proofs.Sandpile.{settled_same}
 use Rattle.sand_group.specs.Group.{SettlesTo, IsSurplus, IsIdentity}
@@ -17,15 +15,8 @@ use Rattle.sand_group.proofs.OperationsSettle.{some_surplus, identity_is_settled
 pub emptied_is_none : (g : Grid) (s w : ℕ → ℕ) → IsToppled g s w (λ i. 0) → IsEquivalent g (whole s) (λ i. pos 0)
 emptied_is_none g s w done = record {
   by_topplings = whole w;
-  difference = λ i l. let e = (toppled_is_integers g s w (λ i. 0)).0 done i l in omega (arith, ints);
+  difference = λ i l. omega (arith, ints, (toppled_is_integers g s w (λ i. 0)).0 done i l);
 }
-
-pub low_within_limit : (g : Grid) (heights : List ℕ) → IsGrid g → length heights ≡ sites g → All (λ h. h ≤ 3) heights
-    → sum heights ≤ most_grains
-low_within_limit g heights grid len low =
-    let all = sum_by-le (λ h. h) 3 heights low in
-    let area = sites_limit g grid in
-    omega arith
 
 -- the identity, however it was found, is the settled pile of some d
 pub identity_settles : (g : Grid) (p : PileView) → p.grid ≡ g → length p.heights ≡ sites g → IsIdentity g (height_of p)

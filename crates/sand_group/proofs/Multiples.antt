@@ -1,23 +1,22 @@
 -- The n-fold sums of a recurrent pile add up as n does.
 use Rattle.std.proofs.Common.{ℕ, ◌≡◌, ◌+◌, ◌-◌, ◌*◌, ◌/◌, ◌^◌, ◌<◌, ◌≤◌, arith}
-use Rattle.std.specs.Prelude.{ℤ, pos, ◌+ℤ◌, ◌↔◌}
+use Rattle.std.specs.Prelude.{ℤ, pos, ◌↔◌}
 use Rattle.std.proofs.lemmas.Int.{ints}
 use Rattle.std.proofs.lemmas.Nat.{shr-shr}
 use Rattle.std.proofs.Math.Nat.{div-eq_of_lt-le, div-one}
 use Rattle.sand_model.specs.Grid.{Grid, sites}
-use Rattle.sand_model.specs.Integers.{whole}
+use Rattle.sand_model.specs.Integers.{whole, IsEquivalent}
 use Rattle.sand_model.specs.Piles.{PileView, height_of}
-use Rattle.sand_model.proofs.EquivalenceIsLinear.{equivalent_sym, equivalent_add, equivalent_same, equivalent_trans}
+use Rattle.sand_model.proofs.EquivalenceIsLinear.{equivalent_sym, equivalent_add, equivalent_same}
 use Rattle.sand_group.specs.Recurrence.{IsRecurrent}
 use Rattle.sand_group.specs.Group.{Represents, IsSum, IsMultiple, IsIdentity}
-use Rattle.sand_group.proofs.OperationsSettle.{class_has_one, represents_itself, represented_once}
+use Rattle.sand_group.proofs.OperationsSettle.{class_has_one, represents_itself, represents_by, represented_once}
 
 represents_same : (g : Grid) (x y : ℕ → ℤ) (c : ℕ → ℕ) → ((i : ℕ) → i < sites g → x i ≡ y i) → Represents g x c
     → Represents g y c
 represents_same g x y c equal is = record {
   recurrent = is.recurrent;
-  equivalent =
-      equivalent_same g (whole c) x (whole c) y is.equivalent (λ i l. let e = equal i l in omega (arith, ints));
+  equivalent = equivalent_same g _ _ _ _ is.equivalent (λ i l. omega (arith, ints, equal i l));
 }
 
 pub none_is_identity : (g : Grid) (c e : ℕ → ℕ) → IsMultiple g 0 c e ↔ IsIdentity g e
@@ -30,45 +29,18 @@ pub one_is_itself : (g : Grid) (c : ℕ → ℕ) → IsRecurrent g c → IsMulti
 one_is_itself g c recurrent =
     represents_same g (whole c) (λ i. pos (1 * c i)) c (λ i l. omega (arith, ints)) (represents_itself g c recurrent)
 
-pub copy_is_multiple : (g : Grid) (n : ℕ) (c e : PileView) → n ≡ 1 → e ≡ c → IsRecurrent g (height_of c)
-    → IsMultiple g n (height_of c) (height_of e)
-copy_is_multiple g n c e one same recurrent = rw (one, same) (one_is_itself g (height_of c) recurrent)
-
--- the sum of the n-fold and the m-fold sum is the (n + m)-fold sum
-pub multiples_sum : (g : Grid) (n m : ℕ) (c a b e : ℕ → ℕ) → IsMultiple g n c a → IsMultiple g m c b → IsSum g a b e
-    → IsMultiple g (n + m) c e
-multiples_sum g n m c a b e one two sum =
-    let both =
-    equivalent_add g (whole a) (λ i. pos (n * c i)) (whole b) (λ i. pos (m * c i)) one.equivalent two.equivalent in
-    record {
-      recurrent = sum.recurrent;
-      equivalent =
-          equivalent_trans g (whole e) (λ i. pos (a i + b i)) (λ i. pos ((n + m) * c i)) sum.equivalent
-          (equivalent_same g (λ i. whole a i +ℤ whole b i) (λ i. pos (n * c i) +ℤ pos (m * c i))
-          (λ i. pos (a i + b i)) (λ i. pos ((n + m) * c i)) both (λ i l. omega (arith, ints)));
-    }
+-- the (n + m)-fold sum is the sum of the n-fold and the m-fold sum
+pub multiples_add_up : (g : Grid) (n m : ℕ) (c a b e : ℕ → ℕ) → IsMultiple g n c a → IsMultiple g m c b
+    → IsMultiple g (n + m) c e ↔ IsSum g a b e
+multiples_add_up g n m c a b e one two =
+    let class : IsEquivalent g (λ i. pos (a i + b i)) (λ i. pos ((n + m) * c i)) =
+    equivalent_same g _ _ _ _ (equivalent_add g _ _ _ _ one.equivalent two.equivalent) (λ i l. omega (arith, ints)) in
+    (represents_by g _ _ e (equivalent_sym g _ _ class), represents_by g _ _ e class)
 
 pub sum_is_multiple : (g h : Grid) (n k m : ℕ) (c a b e : ℕ → ℕ) → h ≡ g → n ≡ k + m
     → IsMultiple g k c a → IsMultiple g m c b → IsSum h a b e → IsMultiple g n c e
-sum_is_multiple g h n k m c a b e same is one two sum = rw is (multiples_sum g k m c a b e one two (rw same at sum))
-
-sum_of_multiples : (g : Grid) (n m : ℕ) (c a b e : ℕ → ℕ) → IsMultiple g n c a
-    → IsMultiple g m c b → IsMultiple g (n + m) c e → IsSum g a b e
-sum_of_multiples g n m c a b e one two all =
-    let both =
-    equivalent_add g (whole a) (λ i. pos (n * c i)) (whole b) (λ i. pos (m * c i)) one.equivalent two.equivalent in
-    let back = equivalent_sym g (λ i. whole a i +ℤ whole b i) (λ i. pos (n * c i) +ℤ pos (m * c i)) both in
-    record {
-      recurrent = all.recurrent;
-      equivalent =
-          equivalent_trans g (whole e) (λ i. pos ((n + m) * c i)) (λ i. pos (a i + b i)) all.equivalent
-          (equivalent_same g (λ i. pos (n * c i) +ℤ pos (m * c i)) (λ i. whole a i +ℤ whole b i)
-          (λ i. pos ((n + m) * c i)) (λ i. pos (a i + b i)) back (λ i l. omega (arith, ints)));
-    }
-
-pub multiples_add_up : (g : Grid) (n m : ℕ) (c a b e : ℕ → ℕ) → IsMultiple g n c a → IsMultiple g m c b
-    → IsMultiple g (n + m) c e ↔ IsSum g a b e
-multiples_add_up g n m c a b e one two = (sum_of_multiples g n m c a b e one two, multiples_sum g n m c a b e one two)
+sum_is_multiple g h n k m c a b e same is one two sum =
+    rw is ((multiples_add_up g k m c a b e one two).1 (rw same at sum))
 
 pub has_one_multiple : (g : Grid) (n : ℕ) (c : ℕ → ℕ)
     → (a : ℕ → ℕ) × IsMultiple g n c a × ((b : ℕ → ℕ) → IsMultiple g n c b → (i : ℕ) → i < sites g → b i ≡ a i)
@@ -78,10 +50,11 @@ has_one_multiple g n c =
 
 -- n / 2 ^ k has the binary digits of n but for the last k
 
-pub first_digit : (g : Grid) (n k : ℕ) (c e : PileView) → 2 ^ k ≤ n → n < 2 * 2 ^ k → e ≡ c → IsRecurrent g (height_of c)
-    → IsMultiple g (n / 2 ^ k) (height_of c) (height_of e)
-first_digit g n k c e low high =
-    copy_is_multiple g (n / 2 ^ k) c e (div-eq_of_lt-le (2 ^ k) (omega arith) (omega arith))
+pub first_digit : (g : Grid) (n k : ℕ) (c e : PileView) → 2 ^ k ≤ n → n < 2 * 2 ^ k → e ≡ c
+    → IsRecurrent g (height_of c) → IsMultiple g (n / 2 ^ k) (height_of c) (height_of e)
+first_digit g n k c e low high same recurrent =
+    let one = div-eq_of_lt-le {k = 1} (2 ^ k) {m = n} (omega arith) (omega arith) in
+    rw (one, same) (one_is_itself g (height_of c) recurrent)
 
 pub without_last_digit : (g : Grid) (n k : ℕ) (c a : ℕ → ℕ) → ¬ k ≡ 0 → IsMultiple g (n / 2 ^ k) c a
     → IsMultiple g (n / 2 ^ (k - 1) / 2) c a

@@ -13,20 +13,22 @@ use Rattle.sand_model.proofs.Bounds.{sites_limit}
 use Rattle.sand_model.proofs.Heights.{get_or-written}
 use Rattle.sand_settle.specs.Settling.{SettledView, IsSettledRecord, odometer_of}
 use Rattle.sand_group.specs.Recurrence.{IsRecurrent}
-use Rattle.sand_group.specs.Group.{SettlesTo, IsSurplus, IsIdentity, IsEquivalentRecurrent}
-use Rattle.sand_group.proofs.OperationsSettle.{equivalent_is_settled, represents_itself, represented_once}
+use Rattle.sand_group.specs.Group.{SettlesTo, IsSurplus, IsSum, IsIdentity, IsEquivalentRecurrent}
+use Rattle.sand_group.proofs.OperationsSettle.{sum_is_settled, equivalent_is_settled, represents_itself, represented_once}
 
-pub within_limit : (g : Grid) (heights : List ℕ) → IsGrid g → length heights ≡ sites g → All (λ h. h ≤ 12) heights
-    → sum heights ≤ most_grains
-within_limit g heights grid len low =
-    let all = sum_by-le (λ h. h) 12 heights low in
-    let area = sites_limit g grid in
-    omega arith
+-- far below the limit of a pile
+pub few_grains : (g : Grid) (heights : List ℕ) → IsGrid g → length heights ≡ sites g → All (λ h. h ≤ 12) heights
+    → sum heights ≤ 786432
+few_grains g heights grid len low = omega (arith, sum_by-le (λ h. h) 12 heights low, sites_limit g grid)
 
-pub low_heights : (p : PileView) (heights : List ℕ) → IsPile p → heights ≡ p.heights → IsStable p.grid (height_of p)
-    → All (λ h. h ≤ 3) heights
-low_heights p heights is same stable =
-    rw same (All-from_get_or (λ h. h ≤ 3) p.heights 0 (λ i l. let each = is.len in stable.low i (omega arith)))
+few_if_stable : (p : PileView) → IsPile p → IsStable p.grid (height_of p) → sum p.heights ≤ 786432
+few_if_stable p is stable = few_grains p.grid p.heights is.grid is.len
+    (All-from_get_or (λ h. h ≤ 12) p.heights 0 (λ i l. omega (arith, stable.low i (omega (arith, is.len)))))
+
+pub together_small : (a b : PileView) → IsPile a → IsPile b → IsStable a.grid (height_of a)
+    → IsStable b.grid (height_of b) → sum a.heights + sum b.heights ≤ most_grains
+together_small a b is_a is_b stable_a stable_b =
+    omega (arith, few_if_stable a is_a stable_a, few_if_stable b is_b stable_b)
 
 -- ---- settled piles
 
@@ -40,24 +42,15 @@ pile_settles g h s r p done same equal = rw same (record {
       (λ i l. sym (equal i l)) (λ i l. refl) (λ i l. refl) done.settled;
 })
 
-pub recurrent_there : (g : Grid) (s : ℕ → ℕ) (p : PileView) → SettlesTo g s p → IsRecurrent g (height_of p)
+pub recurrent_there : {g : Grid} {s : ℕ → ℕ} {p : PileView} → SettlesTo g s p → IsRecurrent g (height_of p)
     → IsRecurrent p.grid (height_of p)
-recurrent_there g s p done recurrent = rw done.grid recurrent
+recurrent_there done recurrent = rw done.grid recurrent
 
 -- ---- the sum
 
-low_sum : (p : PileView) → IsPile p → IsStable p.grid (height_of p) → sum p.heights ≤ 196608
-low_sum p is stable =
-    let all = sum_by-le (λ h. h) 3 p.heights (low_heights p p.heights is refl stable) in
-    let area = sites_limit p.grid is.grid in
-    let each = is.len in
-    omega arith
-
--- two stable piles together are far below the limit
-pub together_small : (a b : PileView) → IsPile a → IsPile b → IsStable a.grid (height_of a)
-    → IsStable b.grid (height_of b) → sum a.heights + sum b.heights ≤ most_grains
-together_small a b is_a is_b stable_a stable_b =
-    let first = low_sum a is_a stable_a in let second = low_sum b is_b stable_b in omega arith
+pub sum_settles : {g : Grid} {a : ℕ → ℕ} (b : ℕ → ℕ) {p : PileView} → IsRecurrent g a → SettlesTo g (λ i. a i + b i) p
+    → IsSum g a b (height_of p)
+sum_settles b recurrent done = sum_is_settled _ _ b done.odometer _ recurrent done.settled
 
 pub together_settles : (a b both : PileView) (r : SettledView) → both.grid ≡ a.grid
     → ((i : ℕ) → height_of both i ≡ height_of a i + height_of b i) → IsSettledRecord both.grid (height_of both) r
@@ -82,20 +75,14 @@ equivalent_settles p e t c u start there identity done =
           here.odometer (height_of c) start identity here.settled;
     }
 
-pub recurrent_of : (g : Grid) (s : ℕ → ℕ) (c : PileView) → IsEquivalentRecurrent g s c
-    → IsRecurrent c.grid (height_of c)
-recurrent_of g s c done = rw done.grid done.represents.recurrent
-
 pub equivalent_itself : (p c : PileView)
     → IsPile p → IsRecurrent p.grid (height_of p)
     → IsEquivalentRecurrent p.grid (height_of p) c → c ≡ p
 equivalent_itself p c is recurrent done =
     let heights : c.heights ≡ p.heights =
     ext_get_or 0 c.heights p.heights (done.len ∙ sym is.len)
-    (λ i l.
-    let each = done.len in
-    represented_once p.grid (whole (height_of p)) (height_of c) (height_of p)
-    done.represents (represents_itself p.grid (height_of p) recurrent) i (omega arith)) in
+    (λ i l. represented_once p.grid (whole (height_of p)) (height_of c) (height_of p) done.represents
+    (represents_itself p.grid (height_of p) recurrent) i (omega (arith, done.len))) in
     ap (λ (h : List ℕ). record { grid = c.grid; heights = h }) heights
     ∙ ap (λ (g : Grid). record { grid = g; heights = p.heights }) done.grid
 
@@ -111,14 +98,9 @@ surplus_is g twice v h p full done same rests = record {
   settled = settled_same g (λ i. get_or twice i 0) (λ i. 6) done.odometer done.odometer (height_of p) (height_of p)
       (λ i l. rw full (get_or-replicate (sites g) i 6 0 l)) (λ i l. refl) (λ i l. refl) done.settled;
   difference = λ i l.
-      let each : length h ≡ sites g = ap length same ∙ done.len in
-      let e = rests i (omega arith) in
-      let here = ap (λ (xs : List ℕ). get_or xs i 0) same in
-      omega arith;
+      let e = rests i (omega (arith, ap length same, done.len)) in
+      omega (arith, ap (λ (xs : List ℕ). get_or xs i 0) same);
 }
-
-pub surplus_there : (g h : Grid) (d : ℕ → ℕ) → g ≡ h → IsSurplus g d → IsSurplus h d
-surplus_there g h d e is = rw (← e) is
 
 pub difference_settles : (g : Grid) (c p : PileView) (hc hd d v : List ℕ)
     → g ≡ c.grid → IsPile c → hc ≡ c.heights → hd ≡ d
@@ -126,13 +108,13 @@ pub difference_settles : (g : Grid) (c p : PileView) (hc hd d v : List ℕ)
     → SettlesTo g (λ i. get_or v i 0) p
     → SettlesTo c.grid (λ i. 2 * get_or d i 0 - height_of c i) p
 difference_settles g c p hc hd d v grid is same same_d differences done =
-    let each : length hc ≡ sites g = ap length same ∙ is.len ∙ sym (ap sites grid) in
     pile_settles g c.grid (λ i. get_or v i 0) (λ i. 2 * get_or d i 0 - height_of c i) p done (sym grid)
-    (λ i l.
-    let e = differences i (omega arith) in
-    let here = ap (λ (xs : List ℕ). get_or xs i 0) same in
-    let from = ap (λ (xs : List ℕ). get_or xs i 0) same_d in
-    omega arith)
+    (λ i l. omega (
+      arith,
+      differences i (omega (arith, ap length same, is.len, ap sites grid)),
+      ap (λ (xs : List ℕ). get_or xs i 0) same,
+      ap (λ (xs : List ℕ). get_or xs i 0) same_d,
+    ))
 
 -- ---- one more grain
 
@@ -142,10 +124,10 @@ pub grain_settles : (g : Grid) (c p : PileView) (h : List ℕ) (site x : ℕ)
     → SettlesTo c.grid (λ i. height_of c i + one_at site i) p
 grain_settles g c p h site x grid is same inside read done =
     let each : length h ≡ sites c.grid = ap length same ∙ is.len in
-    let start = get_or_read h site x (omega arith) read 0 in
     pile_settles g c.grid (λ i. get_or (set h site (x + 1)) i 0) (λ i. height_of c i + one_at site i) p done (sym grid)
-    (λ i l.
-    let here = ap (λ (xs : List ℕ). get_or xs i 0) same in
-    let was = ap (λ k. k * one_at site i) start in
-    let written = get_or-written h site (x + 1) i (omega arith) in
-    omega arith)
+    (λ i l. omega (
+      arith,
+      ap (λ (xs : List ℕ). get_or xs i 0) same,
+      ap (λ k. k * one_at site i) (get_or_read h site x (omega arith) read 0),
+      get_or-written h site (x + 1) i (omega arith),
+    ))

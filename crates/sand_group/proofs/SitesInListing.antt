@@ -1,7 +1,8 @@
 -- Lists of the sites that pass a test: whether a site is in one, and that an ascending list stays ascending.
-use Rattle.std.proofs.Common.{ℕ, Bool, true, false, not, ◌≡◌, ◌+◌, ◌<◌, ◌≤◌, sym, ◌∙◌, ap, arith, List, [], ◌∷◌, ◌++◌, length, All, ⊎_elim}
+use Rattle.std.proofs.Common.{ℕ, Bool, true, not, ◌≡◌, ◌+◌, ◌<◌, ◌≤◌, ap, arith, List, [], ◌∷◌, ◌++◌, length, All, ⊎_elim}
 use Rattle.std.specs.List.Sorted.{IsStrictlyIncreasing}
-use Rattle.std.proofs.lemmas.Bool.{cases_lt, cases_Bool, lt-ltb, le-ltb}
+use Rattle.std.proofs.lemmas.Bool.{cases_lt, cases_Bool, le-ltb}
+use Rattle.std.proofs.lemmas.Bool.Decides.{nat_tests}
 use Rattle.std.proofs.lemmas.List.{length_push, get_or_append_left, get_or_push}
 use Rattle.std.proofs.lemmas.List.Elements.{All-get_or}
 use Rattle.sand_model.specs.Sand.{occurrences}
@@ -13,18 +14,9 @@ use Rattle.sand_group.specs.Fire.{is_out}
 pub is_out-none : (xs : List ℕ) (i : ℕ) → occurrences xs i ≡ 0 → is_out xs i ≡ true
 is_out-none xs i none = ap not (le-ltb 0 (occurrences xs i) (omega arith))
 
-pub is_out-some : (xs : List ℕ) (i : ℕ) → 1 ≤ occurrences xs i → is_out xs i ≡ false
-is_out-some xs i some = ap not (lt-ltb 0 (occurrences xs i) (omega arith))
-
-pub is_in_listing : (n : ℕ) (p : ℕ → Bool) (xs : List ℕ) (i : ℕ) → Lists n p xs → i < n → is_in xs i ≡ p i
-is_in_listing n p xs i list l =
-    ⊎_elim (λ (pass : p i ≡ true).
-    let one = listed n p xs i list l pass in lt-ltb 0 (occurrences xs i) (omega arith) ∙ sym pass)
-    (λ (fail : p i ≡ false). let none = unlisted n p xs i list fail in le-ltb 0 (occurrences xs i) (omega arith) ∙ sym fail)
-    (cases_Bool (p i))
-
-pub is_out_of_listing : (n : ℕ) (p : ℕ → Bool) (xs : List ℕ) (i : ℕ) → Lists n p xs → i < n → is_out xs i ≡ not (p i)
-is_out_of_listing n p xs i list l = ap not (is_in_listing n p xs i list l)
+pub is_in_listing : (n : ℕ) (p : ℕ → Bool) (xs : List ℕ) → Lists n p xs → (i : ℕ) → i < n → is_in xs i ≡ p i
+is_in_listing n p xs list i l =
+    grind (arith, nat_tests, cases_Bool (p i), listed n p xs i list l, unlisted n p xs i list)
 
 -- an ascending list stays ascending after a push of a greater number
 pub increasing_push : (n : ℕ) (xs : List ℕ) → IsStrictlyIncreasing xs → All (λ i. i < n) xs

@@ -1,44 +1,45 @@
 //! What no contract says: that a claim is made, by a guess or by sweeps, and is right for small piles; and which piles
 //! count as high or flat.
 
-use crate::piles::{ring, row};
+use crate::piles::{pile_on, row};
 use sand_guess::{guessed, guessed_identity, is_flat, is_high, toppled};
-use sand_model::{Pile, Shape};
+use sand_model::{Edge, Pile, Shape};
 use std::alloc::Global;
 use std::test::Fail;
 
-// Whether the guess for a pile has these counts.
-fn is_guessed(alloc: Global, pile: Option<Pile>, counts: &[u64]) -> Option<bool> {
-    let claim = guessed(alloc, &pile?).ok()??;
-    Some(claim.counts.as_slice() == counts)
+// Whether a claim for a pile in one row has these counts, by a guess or by sweeps.
+fn is_claimed(
+    alloc: Global,
+    edge: Edge,
+    heights: &[u64],
+    counts: &[u64],
+    by_guess: bool,
+) -> Option<bool> {
+    let pile = pile_on(alloc, heights.len(), 1, edge, heights)?;
+    let claim = if by_guess {
+        guessed(alloc, &pile)
+    } else {
+        toppled(alloc, &pile)
+    };
+    Some(claim.ok()??.counts.as_slice() == counts)
 }
 
 #[test]
-fn guesses_by_hand(rt: HostRuntime) {
-    let alloc = rt.alloc();
-    let lines = is_guessed(alloc, row(alloc, &[0, 4, 0]), &[0, 1, 0]);
-    assert!(rt; lines == Some(true));
-    let rings = is_guessed(alloc, ring(alloc, &[4, 4, 4]), &[1, 1, 1]);
-    assert!(rt; rings == Some(true));
-    let most = is_guessed(alloc, row(alloc, &[1_099_511_627_775]), &[274_877_906_943]);
-    assert!(rt; most == Some(true));
-}
-
-// Whether sweeps topple each site of a pile this often.
-fn is_toppled(alloc: Global, pile: Option<Pile>, counts: &[u64]) -> Option<bool> {
-    let claim = toppled(alloc, &pile?).ok()??;
-    Some(claim.counts.as_slice() == counts)
-}
-
-#[test]
-fn topples_by_hand(rt: HostRuntime) {
-    let alloc = rt.alloc();
-    let lines = is_toppled(alloc, row(alloc, &[0, 4, 0]), &[0, 1, 0]);
-    assert!(rt; lines == Some(true));
-    let rings = is_toppled(alloc, ring(alloc, &[4, 4, 4]), &[1, 1, 1]);
-    assert!(rt; rings == Some(true));
-    let heap = is_toppled(alloc, row(alloc, &[100]), &[25]);
-    assert!(rt; heap == Some(true));
+fn claims_by_hand(rt: HostRuntime) {
+    for (by_guess, edge, heights, counts) in [
+        (true, Edge::Open, [0, 4, 0].as_slice(), [0, 1, 0].as_slice()),
+        (true, Edge::Cylinder, &[4, 4, 4], &[1, 1, 1]),
+        (true, Edge::Open, &[1_099_511_627_775], &[274_877_906_943]),
+        (false, Edge::Open, &[0, 4, 0], &[0, 1, 0]),
+        (false, Edge::Cylinder, &[4, 4, 4], &[1, 1, 1]),
+        (false, Edge::Open, &[100], &[25]),
+    ] {
+        let is_claimed = is_claimed(rt.alloc(), edge, heights, counts, by_guess);
+        assert!(rt;
+            is_claimed == Some(true),
+            "{counts:?}, by a guess: {by_guess}"
+        );
+    }
 }
 
 #[test]

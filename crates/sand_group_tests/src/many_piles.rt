@@ -34,11 +34,7 @@ impl Numbers {
     }
 
     fn edge(&mut self) -> Edge {
-        if self.below(2) == 0 {
-            Edge::Open
-        } else {
-            Edge::Cylinder
-        }
+        [Edge::Open, Edge::Cylinder][self.below(2) as usize]
     }
 
     // Any order of magnitude below 2^40.
@@ -106,29 +102,18 @@ fn left_by_sweeps(alloc: Global, pile: &Pile) -> Option<Vec<u64>> {
 }
 
 #[test]
-fn guesses_of_many_piles_are_accepted(rt: HostRuntime) {
+fn claims_for_many_piles_are_accepted(rt: HostRuntime) {
     let mut numbers = Numbers(88_172_645_463_325_252);
-    let mut piles = 0u64;
+    let (mut piles, mut flat) = (0u64, 0u64);
     for _ in 0..PILES {
         if let Some(pile) = numbers.pile(rt.alloc()) {
             assert!(rt; left_by_guess(rt.alloc(), &pile).is_some());
             piles = piles.saturating_add(1);
-        }
-    }
-    assert!(rt; piles >= 300);
-}
-
-#[test]
-fn sweeps_of_many_flat_piles_are_accepted(rt: HostRuntime) {
-    let mut numbers = Numbers(88_172_645_463_325_252);
-    let mut piles = 0u64;
-    for _ in 0..PILES {
-        if let Some(pile) = numbers.pile(rt.alloc()) {
             // A large pile with many grains may need more sweeps than are tried.
             if is_flat(&pile) && left_by_sweeps(rt.alloc(), &pile).is_some() {
-                piles = piles.saturating_add(1);
+                flat = flat.saturating_add(1);
             }
         }
     }
-    assert!(rt; piles >= 100, "{piles}");
+    assert!(rt; piles >= 300 && flat >= 100, "{piles}, {flat} of them flat");
 }

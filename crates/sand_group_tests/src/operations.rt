@@ -11,14 +11,13 @@ use std::test::Fail;
 
 // Whether burning finds this forbidden set; if the set is empty, that the pile is recurrent.
 fn leaves(alloc: Global, pile: &Pile, set: &[usize]) -> bool {
-    let Ok(burned) = burn(alloc, pile) else {
-        return false;
-    };
-    let is_found = match &burned {
-        Burned::Recurrent(_) => set.is_empty(),
-        Burned::Forbidden(left) => left.as_slice() == set,
-    };
-    is_found && burned.is_recurrent() == set.is_empty()
+    burn(alloc, pile).is_ok_and(|burned| {
+        burned.is_recurrent() == set.is_empty()
+            && match &burned {
+                Burned::Recurrent(_) => set.is_empty(),
+                Burned::Forbidden(left) => left.as_slice() == set,
+            }
+    })
 }
 
 #[test]
@@ -41,10 +40,7 @@ fn burns_what_is_not_forbidden(rt: HostRuntime) -> Result<(), Fail> {
 
 // Whether an operation returned the pile with these heights.
 fn is_made(made: Result<Recurrent, GroupFault>, heights: &[u64]) -> bool {
-    match made {
-        Ok(made) => made.pile().heights() == heights,
-        Err(_) => false,
-    }
+    made.is_ok_and(|made| made.pile().heights() == heights)
 }
 
 // Whether the identity of a grid, and its sum with itself, have these heights.
@@ -84,39 +80,29 @@ fn recurrent(alloc: Global, heights: &[u64]) -> Option<Recurrent> {
     recurrent
 }
 
-// The sum of two recurrent piles.
-fn sum_of(
-    alloc: Global,
-    pile: &Option<Recurrent>,
-    other: &Option<Recurrent>,
-) -> Option<Result<Recurrent, GroupFault>> {
-    match (pile, other) {
-        (Some(pile), Some(other)) => Some(add(alloc, pile, other)),
-        _ => None,
-    }
+// The sum of two recurrent piles in one row.
+fn sum_of(alloc: Global, pile: &[u64], other: &[u64]) -> Option<Result<Recurrent, GroupFault>> {
+    let (pile, other) = (recurrent(alloc, pile)?, recurrent(alloc, other)?);
+    Some(add(alloc, &pile, &other))
 }
 
 #[test]
 fn adds(rt: HostRuntime) {
-    let pile = recurrent(rt.alloc(), &[3, 1]);
-    let other = recurrent(rt.alloc(), &[0, 2]);
-    let sum = sum_of(rt.alloc(), &pile, &other);
-    drop((pile, other));
-    assert!(rt; is_made(sum.expect(&rt, "two recurrent piles"), &[3, 3]));
+    let sum = sum_of(rt.alloc(), &[3, 1], &[0, 2]);
+    assert!(rt; sum.is_some_and(|sum| is_made(sum, &[3, 3])));
 }
 
 #[test]
-fn inverts(rt: HostRuntime) -> Result<(), Fail> {
-    let pile = recurrent(rt.alloc(), &[3, 1]).ok_or("not recurrent")?;
-    assert!(rt; is_made(inverse(rt.alloc(), &pile), &[0, 2]));
-    drop(pile);
-    Ok(())
+fn refuses_two_shapes(rt: HostRuntime) {
+    let sum = sum_of(rt.alloc(), &[3], &[3, 1]);
+    assert!(rt; sum.is_some_and(|sum| refusal(sum) == 9));
 }
 
 // The group of two sites has 15 elements, and 2^64 - 1 is a multiple of 15.
 #[test]
-fn multiplies(rt: HostRuntime) -> Result<(), Fail> {
+fn inverts_and_multiplies(rt: HostRuntime) -> Result<(), Fail> {
     let pile = recurrent(rt.alloc(), &[3, 1]).ok_or("not recurrent")?;
+    assert!(rt; is_made(inverse(rt.alloc(), &pile), &[0, 2]));
     for (n, heights) in [
         (0, [3, 3]),
         (1, [3, 1]),
@@ -152,10 +138,7 @@ fn acts(rt: HostRuntime) -> Result<(), Fail> {
 
 // The number of the fault of a call of the group, or 0.
 fn refusal<T: Drop>(called: Result<T, GroupFault>) -> u32 {
-    match called {
-        Ok(_) => 0,
-        Err(fault) => fault.number(),
-    }
+    called.map_or_else(|fault| fault.number(), |_| 0)
 }
 
 #[test]
@@ -167,15 +150,6 @@ fn refuses_what_is_not_recurrent(rt: HostRuntime) -> Result<(), Fail> {
         drop(pile);
     }
     Ok(())
-}
-
-#[test]
-fn refuses_two_shapes(rt: HostRuntime) {
-    let one = recurrent(rt.alloc(), &[3]);
-    let two = recurrent(rt.alloc(), &[3, 1]);
-    let sum = sum_of(rt.alloc(), &one, &two);
-    drop((one, two));
-    assert!(rt; refusal(sum.expect(&rt, "two recurrent piles")) == 9);
 }
 
 #[test]
@@ -192,12 +166,7 @@ fn numbers_of_the_faults_of_the_group(rt: HostRuntime) {
 
 // Whether the recurrent pile equivalent to a pile has these heights.
 fn is_equivalent(alloc: Global, pile: Option<Pile>, heights: &[u64]) -> bool {
-    let is_equivalent = match &pile {
-        Some(pile) => is_made(equivalent_recurrent(alloc, pile), heights),
-        None => false,
-    };
-    drop(pile);
-    is_equivalent
+    pile.is_some_and(|pile| is_made(equivalent_recurrent(alloc, &pile), heights))
 }
 
 #[test]

@@ -49,23 +49,14 @@ fn heights_that_make_no_pile(rt: HostRuntime) {
     assert!(rt; refusal(rt.alloc(), &[1_099_511_627_775, 1]) == Some(3));
 }
 
-// Adds a grain to the first site. Returns the number of the fault, or 0.
-fn grain_added(pile: &mut Pile) -> Option<u32> {
-    if pile.shape().sites() == 0 {
-        return None;
-    }
-    match pile.add_grain(0) {
-        Ok(()) => Some(0),
-        Err(fault) => Some(fault.number()),
-    }
-}
-
 // A pile of one site after a grain is added: the fault's number, or 0, and the heights.
 fn with_a_grain(alloc: Global, height: u64) -> Option<(u32, Vec<u64>)> {
     let mut pile = row(alloc, &[height])?;
-    let number = grain_added(&mut pile);
-    let (_, heights) = pile.into_parts();
-    Some((number?, heights))
+    if pile.shape().sites() == 0 {
+        return None;
+    }
+    let number = pile.add_grain(0).err().map_or(0, |fault| fault.number());
+    Some((number, pile.into_parts().1))
 }
 
 #[test]
@@ -84,37 +75,31 @@ fn a_grain_is_added_up_to_the_limit(rt: HostRuntime) -> Result<(), Fail> {
     Ok(())
 }
 
-// What toppling a site returns, if it is in the grid.
-fn toppled(pile: &mut Pile, site: usize) -> Option<Result<u8, ToppleFault>> {
-    if site >= pile.shape().sites() {
-        return None;
-    }
-    Some(topple(pile, site))
-}
-
-// Whether toppling a site returns this and leaves these heights.
+// Whether toppling a site of a row returns this and leaves these heights.
 fn topples(
-    pile: Option<Pile>,
+    alloc: Global,
+    start: &[u64],
     site: usize,
     expected: Result<u8, ToppleFault>,
     heights: &[u64],
-) -> bool {
-    match pile {
-        Some(mut pile) => {
-            let actual = toppled(&mut pile, site);
-            let (_, left) = pile.into_parts();
-            actual == Some(expected) && left.as_slice() == heights
-        }
-        None => false,
+) -> Option<bool> {
+    let mut pile = row(alloc, start)?;
+    if site >= pile.shape().sites() {
+        return None;
     }
+    Some(topple(&mut pile, site) == expected && pile.heights() == heights)
 }
 
 #[test]
 fn a_site_topples_from_height_4_on(rt: HostRuntime) {
-    let alloc = rt.alloc();
-    assert!(rt; topples(row(alloc, &[0, 5, 1]), 1, Ok(2), &[1, 1, 2]));
-    assert!(rt; topples(row(alloc, &[4]), 0, Ok(4), &[0]));
-    assert!(rt; topples(row(alloc, &[3]), 0, Err(ToppleFault::TooLow), &[3]));
+    for (start, site, expected, heights) in [
+        ([0, 5, 1].as_slice(), 1, Ok(2), [1, 1, 2].as_slice()),
+        (&[4], 0, Ok(4), &[0]),
+        (&[3], 0, Err(ToppleFault::TooLow), &[3]),
+    ] {
+        let topples = topples(rt.alloc(), start, site, expected, heights);
+        assert!(rt; topples == Some(true), "{start:?}");
+    }
 }
 
 #[test]

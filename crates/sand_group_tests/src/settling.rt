@@ -15,25 +15,11 @@ fn record_of(alloc: Global, start: Option<Pile>) -> Option<Settled> {
 
 // Whether a record has these heights, this odometer, and these numbers of lost grains and topplings.
 fn is_record(record: Option<Settled>, heights: &[u64], odometer: &[u64], sums: (u64, u64)) -> bool {
-    match record {
-        Some(record) => {
-            record.pile().heights() == heights
-                && record.odometers() == odometer
-                && (record.lost(), record.topplings()) == sums
-        }
-        None => false,
-    }
-}
-
-#[test]
-fn settles_as_worked_out(rt: HostRuntime) {
-    let alloc = rt.alloc();
-    let line = record_of(alloc, row(alloc, &[0, 4, 0]));
-    assert!(rt; is_record(line, &[1, 0, 1], &[0, 1, 0], (2, 1)));
-    let pair = record_of(alloc, row(alloc, &[4, 4]));
-    assert!(rt; is_record(pair, &[1, 1], &[1, 1], (6, 2)));
-    let round = record_of(alloc, ring(alloc, &[4, 4, 4]));
-    assert!(rt; is_record(round, &[2, 2, 2], &[1, 1, 1], (6, 3)));
+    record.is_some_and(|record| {
+        record.pile().heights() == heights
+            && record.odometers() == odometer
+            && (record.lost(), record.topplings()) == sums
+    })
 }
 
 // Whether heights settle to these where they are, over an odometer that held something else.
@@ -43,33 +29,34 @@ fn is_in_place(
     heights: &[u64],
     odometer: &[u64],
     sums: (u64, u64),
-) -> Result<bool, Fail> {
-    let Some(start) = start else {
-        return Ok(false);
-    };
-    let mut list = Vec::from_slice(alloc, start.heights())?;
-    let mut counts = vec![in alloc; 7u64; start.shape().sites()]?;
-    let Ok(Totals { topplings, lost }) = settle_in_place(
-        alloc,
-        start.shape(),
-        &mut list,
-        &mut counts,
-    ) else {
-        return Ok(false);
-    };
-    Ok(list.as_slice() == heights && counts.as_slice() == odometer && (lost, topplings) == sums)
+) -> Option<bool> {
+    let start = start?;
+    let shape = start.shape();
+    let mut list = Vec::from_slice(alloc, start.heights()).ok()?;
+    let mut counts = vec![in alloc; 7u64; shape.sites()].ok()?;
+    let Totals { topplings, lost } = settle_in_place(alloc, shape, &mut list, &mut counts).ok()?;
+    let is_right = list.as_slice() == heights && counts.as_slice() == odometer;
+    Some(is_right && (lost, topplings) == sums)
 }
 
+// Piles in one row, the heights and the odometer once they are settled, and the numbers of lost grains and topplings.
+const SETTLED: [(Edge, &[u64], &[u64], &[u64], (u64, u64)); 4] = [
+    (Edge::Open, &[0, 4, 0], &[1, 0, 1], &[0, 1, 0], (2, 1)),
+    (Edge::Open, &[4, 4], &[1, 1], &[1, 1], (6, 2)),
+    (Edge::Open, &[3, 0, 3], &[3, 0, 3], &[0, 0, 0], (0, 0)),
+    (Edge::Cylinder, &[4, 4, 4], &[2, 2, 2], &[1, 1, 1], (6, 3)),
+];
+
 #[test]
-fn settles_in_place_as_worked_out(rt: HostRuntime) -> Result<(), Fail> {
-    let alloc = rt.alloc();
-    let line = row(alloc, &[0, 4, 0]);
-    assert!(rt; is_in_place(alloc, line, &[1, 0, 1], &[0, 1, 0], (2, 1))?);
-    let stable = row(alloc, &[3, 0, 3]);
-    assert!(rt; is_in_place(alloc, stable, &[3, 0, 3], &[0, 0, 0], (0, 0))?);
-    let round = ring(alloc, &[4, 4, 4]);
-    assert!(rt; is_in_place(alloc, round, &[2, 2, 2], &[1, 1, 1], (6, 3))?);
-    Ok(())
+fn settles_as_worked_out(rt: HostRuntime) {
+    for (edge, start, heights, odometer, sums) in SETTLED {
+        let pile = pile_on(rt.alloc(), start.len(), 1, edge, start);
+        let record = record_of(rt.alloc(), pile);
+        assert!(rt; is_record(record, heights, odometer, sums), "{start:?}");
+        let pile = pile_on(rt.alloc(), start.len(), 1, edge, start);
+        let is_in_place = is_in_place(rt.alloc(), pile, heights, odometer, sums);
+        assert!(rt; is_in_place == Some(true), "{start:?} in place");
+    }
 }
 
 #[test]
@@ -100,25 +87,7 @@ fn drop_at(alloc: Global, one: &mut OnePile, site: usize) -> Result<(u64, Avalan
     if site >= one.pile().shape().sites() {
         return Err(0);
     }
-    match one.drop_at(alloc, site) {
-        Ok(dropped) => Ok(dropped),
-        Err(fault) => Err(fault.number()),
-    }
-}
-
-// Drops grains one after another. Returns the number and the avalanche of the last drop, and the pile after it.
-fn dropped(
-    alloc: Global,
-    start: Option<Pile>,
-    sites: &[usize],
-) -> Option<(u64, Avalanche, OnePile)> {
-    let mut one = one_of(alloc, start)?;
-    let mut last = None;
-    for site in sites {
-        last = Some(drop_at(alloc, &mut one, *site).ok()?);
-    }
-    let (number, avalanche) = last?;
-    Some((number, avalanche, one))
+    one.drop_at(alloc, site).map_err(|fault| fault.number())
 }
 
 // Whether a pile has these heights and this odometer.
@@ -126,48 +95,28 @@ fn has(one: &OnePile, heights: &[u64], odometer: &[u64]) -> bool {
     one.pile().heights() == heights && one.odometers() == odometer
 }
 
-#[test]
-fn drops_on_a_full_square(rt: HostRuntime) -> Result<(), Fail> {
-    let start = pile_on(rt.alloc(), 3, 3, Edge::Open, &[3; 9]);
-    let (number, avalanche, one) = dropped(rt.alloc(), start, &[4]).ok_or("not dropped")?;
-    let expected = Avalanche {
-        site: 4,
-        size: 10,
-        area: 9,
-        reach: 2,
-        lost: 12,
-    };
-    assert!(rt; number == 0 && avalanche == expected);
-    assert!(rt;
-        has(
-            &one,
-            &[1, 3, 1, 3, 0, 3, 1, 3, 1],
-            &[1, 1, 1, 1, 2, 1, 1, 1, 1]
-        )
-    );
-    drop(one);
-    Ok(())
+// The avalanche of a drop at a site: its size, area and reach, and the grains lost.
+fn avalanche(site: usize, size: u64, area: u32, reach: u32, lost: u64) -> Avalanche {
+    Avalanche {
+        site,
+        size,
+        area,
+        reach,
+        lost,
+    }
 }
 
 #[test]
-fn a_second_drop_on_a_full_square(rt: HostRuntime) -> Result<(), Fail> {
+fn two_drops_on_a_full_square(rt: HostRuntime) -> Result<(), Fail> {
     let start = pile_on(rt.alloc(), 3, 3, Edge::Open, &[3; 9]);
-    let (number, avalanche, one) = dropped(rt.alloc(), start, &[4, 0]).ok_or("not dropped")?;
-    let calm = Avalanche {
-        site: 0,
-        size: 0,
-        area: 0,
-        reach: 0,
-        lost: 0,
-    };
-    assert!(rt; number == 1 && avalanche == calm);
-    assert!(rt;
-        has(
-            &one,
-            &[2, 3, 1, 3, 0, 3, 1, 3, 1],
-            &[1, 1, 1, 1, 2, 1, 1, 1, 1]
-        )
-    );
+    let mut one = one_of(rt.alloc(), start).ok_or("no pile")?;
+    let odometer = [1, 1, 1, 1, 2, 1, 1, 1, 1];
+    let first = drop_at(rt.alloc(), &mut one, 4);
+    assert!(rt; first == Ok((0, avalanche(4, 10, 9, 2, 12))));
+    assert!(rt; has(&one, &[1, 3, 1, 3, 0, 3, 1, 3, 1], &odometer));
+    let second = drop_at(rt.alloc(), &mut one, 0);
+    assert!(rt; second == Ok((1, avalanche(0, 0, 0, 0, 0))));
+    assert!(rt; has(&one, &[2, 3, 1, 3, 0, 3, 1, 3, 1], &odometer));
     assert!(rt; (one.tally(), one.lost(), one.topplings()) == (2, 12, 10));
     drop(one);
     Ok(())
@@ -175,16 +124,9 @@ fn a_second_drop_on_a_full_square(rt: HostRuntime) -> Result<(), Fail> {
 
 #[test]
 fn drops_round_a_cylinder(rt: HostRuntime) -> Result<(), Fail> {
-    let start = ring(rt.alloc(), &[3; 4]);
-    let (_, avalanche, one) = dropped(rt.alloc(), start, &[0]).ok_or("not dropped")?;
-    let expected = Avalanche {
-        site: 0,
-        size: 4,
-        area: 4,
-        reach: 2,
-        lost: 8,
-    };
-    assert!(rt; avalanche == expected);
+    let mut one = one_of(rt.alloc(), ring(rt.alloc(), &[3; 4])).ok_or("no pile")?;
+    let dropped = drop_at(rt.alloc(), &mut one, 0);
+    assert!(rt; dropped == Ok((0, avalanche(0, 4, 4, 2, 8))));
     assert!(rt; has(&one, &[2, 1, 1, 1], &[1; 4]));
     drop(one);
     Ok(())

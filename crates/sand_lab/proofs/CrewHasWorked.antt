@@ -1,8 +1,7 @@
 -- What each member of a crew may do, and what it has done afterwards.
-use Rattle.std.proofs.Common.{◌≡◌, ℕ, zero, suc, ◌+◌, ◌-◌, ◌*◌, ◌/◌, ◌<◌, ◌≤◌, List, [], ◌∷◌, cond, leb, All, length, take, drop, sum, sum_by, get_or, refl, sym, ap, ◌∙◌, subst, arith}
+use Rattle.std.proofs.Common.{◌≡◌, ℕ, zero, suc, ◌+◌, ◌-◌, ◌*◌, ◌/◌, ◌<◌, ◌≤◌, List, [], ◌∷◌, All, length, take, drop, sum, sum_by, get_or, refl, sym, ap, ◌∙◌, subst, arith}
 use Rattle.std.specs.Prelude.{slice_index}
 use Rattle.sand_shared.specs.declared.rows.Rows.{Rows}
-use Rattle.sand_model.proofs.Neighbours.{cond_same}
 use Rattle.sand_model.specs.Piles.{height_of}
 use Rattle.std.proofs.lemmas.List.{get_or-take, get_or-drop, length-replicate, length-take}
 use Rattle.std.proofs.lemmas.List.Sums.{sum_by-cons}
@@ -20,6 +19,8 @@ use Rattle.sand_plan.specs.declared.wish.Wish.{Wish}
 use Rattle.sand_lab.specs.declared.workers.Worker.{Worker}
 use Rattle.sand_lab.specs.Crews.{EachAt, band, due, rowless, banded, IsDropper, IsWorker, IsObserver, IsCrew, HasDroppedItsStream, HasSweptItsBand, HasReadItsTallies, HasWorked}
 use Rattle.sand_lab.specs.Jobs.{CanDrop, CanSweep, CanTally, TookDropTurns, TookSweepTurns, TookTallyTurns, Climbs}
+use Rattle.sand_shared.proofs.Lawfulness.{get-zeros}
+use Rattle.std.proofs.lemmas.Bool.Decides.{nat_tests}
 use Rattle.sand_lab.proofs.EachAtItsPlace.{each_zip}
 use Rattle.sand_lab.specs.Streams.{Reading, stream_sites}
 
@@ -91,20 +92,12 @@ sums_up f (x ∷ xs) (y ∷ ys) up =
 few_left : (s : SharedView) (v : PassView) (i n : ℕ)
     → LeavesAtMost s.terms (at_rest v) i (4 * n + 3) → toppled_by (at_rest v) i ≡ 0
     → height_of s.terms.start i / 4 ≤ n
-few_left s v i n most none =
-    let low : height_of s.terms.start i ≤ 4 * n + 3 = omega (arith, most, none) in
-    omega (arith, low)
-
-zeros_at : (n j : ℕ) → get_or (zeros n) j 0 ≡ 0
-zeros_at zero j = refl
-zeros_at (suc n) zero = refl
-zeros_at (suc n) (suc j) = zeros_at n j
+few_left s v i n most none = omega arith
 
 none_toppled : (v : PassView) (n i : ℕ) → v.counts ≡ zeros n → toppled_by (at_rest v) i ≡ 0
 none_toppled v n i e =
-    let zero_there : slice_index v.counts (i - v.rows.first * v.grid.width) ≡ 0 =
-    ap (λ (cs : List ℕ). get_or cs (i - v.rows.first * v.grid.width) 0) e ∙ zeros_at n _ in
-    ap (λ (m : ℕ). cond (leb (v.rows.first * v.grid.width) i) m 0) zero_there ∙ cond_same _ 0
+    let zero_there = ap (λ (cs : List ℕ). get_or cs (i - v.rows.first * v.grid.width) 0) e ∙ get-zeros n _ in
+    grind (arith, nat_tests, zero_there)
 
 -- a worker that sweeps at least once does what is due
 due_swept : (s : SharedView) (rows : Rows) (turns : ℕ) (w x : Worker)

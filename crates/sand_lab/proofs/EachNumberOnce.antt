@@ -1,10 +1,10 @@
--- If the numbers of receipts are all different and below their count, each number below it occurs exactly once.
-use Rattle.std.proofs.Common.{ℕ, ◌≡◌, ◌<◌, ◌≤◌, List, map, length, get_or, Some, sym, ap, ◌∙◌, ⊎_elim, arith}
-use Rattle.std.proofs.lemmas.Bool.{cases_eq, cases_lt}
+-- If the numbers of receipts are all different and below their count, each number below it occurs exactly once. So the
+-- sites of a journal are the history.
+use Rattle.std.proofs.Common.{ℕ, ◌≡◌, ◌<◌, List, map, length, get_or, Some, sym, ap, ◌∙◌, arith, ◌/◌}
 use Rattle.std.proofs.lemmas.List.{length-map}
 use Rattle.std.proofs.lemmas.List.Elements.{All-map}
-use Rattle.std.proofs.lemmas.Option.{get_or_from_slice_get, slice_get-get_or, slice_get_within}
-use Rattle.std.specs.Prelude.{slice_get}
+use Rattle.std.proofs.lemmas.Option.{get_or_from_slice_get, slice_get-get_or, slice_get_within, slice_get-map}
+use Rattle.std.specs.Prelude.{slice_get, option_map}
 use Rattle.sand_model.specs.Sand.{sum_below, occurrences, one_at}
 use Rattle.sand_model.proofs.Bounds.{fewer_than_all}
 use Rattle.sand_model.proofs.Occurrences.{sum_below-occurrences}
@@ -12,8 +12,11 @@ use Rattle.sand_shared.specs.declared.view.Receipt.{Receipt}
 use Rattle.sand_shared.specs.OpenPile.{numbered}
 use Rattle.sand_shared.specs.Events.{receipt}
 use Rattle.sand_shared.specs.Passes.{EachOnce, AllBelow}
-use Rattle.sand_shared.proofs.ReceiptsTellHistory.{apart, found}
+use Rattle.sand_shared.proofs.ReceiptsTellHistory.{apart, found, history_is}
 use Rattle.sand_shared.proofs.SumsOverPasses.{sum_by-map}
+use Rattle.sand_shared.specs.Record.{Tells}
+use Rattle.sand_lab.specs.declared.journal.Entry.{Entry}
+use Rattle.sand_lab.specs.Journals.{entry, sites_in, IsJournal}
 
 abbrev pub numbers_of : List Receipt → List ℕ
 numbers_of rs = map (λ (r : Receipt). r.number) rs
@@ -30,13 +33,9 @@ each_number rs once below n inside =
     let long : length (numbers_of rs) ≡ length rs = length-map rs (λ (r : Receipt). r.number) in
     let here = once n in
     let same = occurrences-numbers rs n in
-    ⊎_elim
-    (λ (none : numbered rs n < 1).
-    let less = fewer_than_all (length rs) (occurrences (numbers_of rs)) n
+    let less = λ (none : numbered rs n < 1). fewer_than_all (length rs) (occurrences (numbers_of rs)) n
     (λ i l. let o = once i in let e = occurrences-numbers rs i in omega arith) inside (omega arith) in
-    absurd (omega arith))
-    (λ (some : 1 ≤ numbered rs n). omega arith)
-    (cases_lt (numbered rs n) 1)
+    grind (arith, all, long, here, same, less)
 
 -- some receipt has the number n
 abbrev pub HasNumber : List Receipt → ℕ → Type 0
@@ -58,8 +57,31 @@ one_place rs i j r q once here there same =
     let number : Receipt → ℕ = λ x. x.number in
     let first = ap number (get_or_from_slice_get rs i r r here) in
     let second = ap number (get_or_from_slice_get rs j q r there) in
-    ⊎_elim
-    (λ (e : i ≡ j). e)
-    (λ (ne : i ≡ j → ⊥). absurd (apart rs i j r once (slice_get_within rs i r here) (slice_get_within rs j q there)
-    (λ e. ne (sym e)) (second ∙ sym same ∙ sym first)))
-    (cases_eq i j)
+    let other = apart rs i j r once (slice_get_within rs i r here) (slice_get_within rs j q there) in
+    grind (arith, first, second, same, other)
+
+-- the entry at each number is that of its receipt
+pub entry_of : (drops : ℕ) (rs : List Receipt) (js : List Entry) → EachOnce rs
+    → AllBelow (length rs) rs → IsJournal drops rs js → (n : ℕ) → n < length rs
+    → (i : ℕ) × (r : Receipt) × (slice_get rs i ≡ Some r)
+    × (r.number ≡ n) × (slice_get js n ≡ Some (entry (i / drops) r.site))
+entry_of drops rs js once below journal n inside =
+    let found = receipt_of rs once below n inside in
+    (found.0, found.1, found.2, found.3, ap (slice_get js) (sym found.3) ∙ journal.noted found.0 found.1 found.2)
+
+-- the sites of a journal agree with its receipts
+pub journal_tells : (drops : ℕ) (rs : List Receipt) (js : List Entry) → IsJournal drops rs js → Tells rs (sites_in js)
+journal_tells drops rs js journal k d inside =
+    let r = get_or rs k d in
+    slice_get-map (λ (e : Entry). e.site) js r.number
+    ∙ ap (option_map (λ (e : Entry). e.site)) (journal.noted k r (slice_get-get_or rs k d inside))
+
+-- a journal and a history of the same receipts have the same sites
+pub journal_sites : (drops : ℕ) (rs : List Receipt) (js : List Entry) (history : List ℕ)
+    → IsJournal drops rs js → Tells rs history → EachOnce rs
+    → AllBelow (length rs) rs → length history ≡ length rs
+    → sites_in js ≡ history
+journal_sites drops rs js history journal told once below long =
+    history_is rs history (λ n inside. let one = each_number rs once below n (omega arith) in omega arith)
+    (sites_in js) (length-map js (λ (e : Entry). e.site) ∙ journal.len ∙ sym long)
+    (journal_tells drops rs js journal) told

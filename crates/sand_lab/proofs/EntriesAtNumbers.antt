@@ -1,9 +1,9 @@
 -- A journal that is written part by part has the entry of each receipt at its number.
-use Rattle.std.proofs.Common.{ℕ, zero, suc, ◌≡◌, ◌≢◌, ◌+◌, ◌-◌, ◌*◌, ◌/◌, ◌<◌, ◌≤◌, List, Vec, Global, [], ◌∷◌, All, length, get_or, set, Some, refl, sym, ap, ◌∙◌, subst, ⊎_elim, arith}
+use Rattle.std.proofs.Common.{ℕ, ◌≡◌, ◌≢◌, ◌+◌, ◌-◌, ◌*◌, ◌/◌, ◌<◌, ◌≤◌, List, Vec, Global, All, length, get_or, set, Some, sym, ap, ◌∙◌, subst, ⊎_elim, arith}
 use Rattle.std.proofs.lemmas.Bool.{cases_lt}
 use Rattle.std.proofs.lemmas.Nat.{div-mul-add}
-use Rattle.std.proofs.lemmas.Option.{same_Some, slice_get-get_or, get_or_from_slice_get, slice_get_within}
-use Rattle.std.specs.Prelude.{slice_get}
+use Rattle.std.proofs.lemmas.Option.{slice_get-map, same_Some, slice_get-get_or, get_or_from_slice_get, slice_get_within}
+use Rattle.std.specs.Prelude.{slice_get, option_map}
 use Rattle.sand_shared.specs.declared.view.Receipt.{Receipt}
 use Rattle.sand_shared.specs.Events.{receipt}
 use Rattle.sand_shared.specs.Passes.{EachOnce, AllBelow}
@@ -56,22 +56,21 @@ module _ (dropper i : ℕ) (rs : List Receipt) (js : List Entry) (r : Receipt) (
 
 pub part_at : (parts : List (Vec Receipt Global)) (k : ℕ) (d : Vec Receipt Global) → k < length parts
     → slice_get (lists parts) k ≡ Some (get_or parts k d).items
-part_at [] k d inside = absurd (omega arith)
-part_at (part ∷ parts) zero d inside = refl
-part_at (part ∷ parts) (suc k) d inside = part_at parts k d (omega arith)
+part_at parts k d inside = slice_get-map (λ part. part.items) parts k
+    ∙ ap (option_map (λ part. part.items)) (slice_get-get_or parts k d inside)
 
 -- the entry of each of the first i receipts is at its number
 abbrev pub NotedBelow : ℕ → ℕ → List Receipt → List Entry → Type 0
 NotedBelow drops i rs js =
     (j : ℕ) (r : Receipt) → j < i → slice_get rs j ≡ Some r → slice_get js r.number ≡ Some (entry (j / drops) r.site)
 
-module _ (drops : ℕ) (parts : List (List Receipt)) (rs : List Receipt) (are : AreParts drops parts rs) where
+module _ {drops : ℕ} {parts : List (List Receipt)} {rs : List Receipt} (are : AreParts drops parts rs) where
   pub part_below : (k : ℕ) (part : List Receipt) (long : ℕ) → slice_get parts k ≡ Some part → AllBelow long rs
       → AllBelow long part
   part_below k part long at below i d inside =
-      let fits : i < drops = omega (arith, inside, length-part drops parts rs are k part at) in
-      subst (λ (r : Receipt). r.number < long) (same_receipt drops parts rs are k part at i d fits)
-      (below (k * drops + i) d (place_inside drops parts rs are k part at i fits))
+      let fits : i < drops = omega (arith, inside, length-part are k part at) in
+      subst (λ (r : Receipt). r.number < long) (same_receipt are k part at i d fits)
+      (below (k * drops + i) d (place_inside are k part at i fits))
 
   -- with one more part
   pub noted_more : (k : ℕ) (part : List Receipt) (before after : List Entry)
@@ -84,7 +83,7 @@ module _ (drops : ℕ) (parts : List (List Receipt)) (rs : List Receipt) (are : 
       let none : All (λ (q : Receipt). q.number ≢ r.number) part = λ i d inside e.
       let in_part = slice_get-get_or part i d inside in
       let place : j ≡ k * drops + i = one_place rs j (k * drops + i) r (get_or part i d) once
-      there (in_all drops parts rs are k part at i (get_or part i d) in_part) (sym e) in
+      there (in_all are k part at i (get_or part i d) in_part) (sym e) in
       omega (arith, place, earlier) in
       agree r.number none ∙ noted j r earlier there)
       (λ (later : k * drops ≤ j).
@@ -93,7 +92,7 @@ module _ (drops : ℕ) (parts : List (List Receipt)) (rs : List Receipt) (are : 
       let inside : i < drops = omega (arith, later, less) in
       let here = subst (λ n. slice_get rs n ≡ Some r) place there in
       let whose : k ≡ j / drops = sym (ap (λ n. n / drops) place ∙ div-mul-add k drops i inside) in
-      entries i r (in_part drops parts rs are k part at i r inside here) ∙ ap (λ n. Some (entry n r.site)) whose)
+      entries i r (in_part are k part at i r inside here) ∙ ap (λ n. Some (entry n r.site)) whose)
       (cases_lt j (k * drops))
 
   -- with all parts
@@ -102,5 +101,5 @@ module _ (drops : ℕ) (parts : List (List Receipt)) (rs : List Receipt) (are : 
   all_noted js long noted = record {
     len = long;
     noted = λ j r there.
-        noted j r (omega (arith, slice_get_within rs j r there, length-parts drops parts rs are)) there;
+        noted j r (omega (arith, slice_get_within rs j r there, length-parts are)) there;
   }

@@ -1,5 +1,5 @@
 -- A gathered crew makes a whole pass and a closed epoch.
-use Rattle.std.proofs.Common.{◌≡◌, ℕ, suc, ◌*◌, ◌<◌, ◌≤◌, List, [], ◌∷◌, All, length, sum, get_or, refl, sym, ap, ◌∙◌, subst, arith}
+use Rattle.std.proofs.Common.{◌≡◌, ℕ, suc, ◌*◌, ◌<◌, ◌≤◌, List, [], ◌∷◌, All, length, sum, refl, sym, ap, ◌∙◌, subst, arith}
 use Rattle.std.specs.List.{flat_map}
 use Rattle.std.specs.Prelude.{slice_index}
 use Rattle.std.proofs.lemmas.List.{length-map}
@@ -29,7 +29,7 @@ use Rattle.sand_plan.specs.Plans.{IsPlan, quota_of}
 use Rattle.sand_lab.specs.Epochs.{AreTallies, AreSwept, IsClosed}
 use Rattle.sand_lab.specs.Streams.{stream_of, stream_sites}
 use Rattle.sand_lab.proofs.CrewHasWorked.{sums_up}
-use Rattle.sand_lab.proofs.JournalSites.{journal_sites}
+use Rattle.sand_lab.proofs.EachNumberOnce.{journal_sites}
 use Rattle.sand_lab.proofs.JournalFollowsStreams.{follows_streams, length-parts}
 use Rattle.sand_lab.proofs.EachAtItsPlace.{all_map, each_map}
 use Rattle.sand_lab.proofs.OccurrencesInStreams.{length-stream_sites, parts_by_site}
@@ -57,7 +57,7 @@ counts_few r cs one below =
     let few = sums_up (λ n. n) cs r.settled.odometer (λ i lt. below i) in
     omega (arith, all, one.settled.all_topplings, few)
 
-module _ (s : SharedView) (w : Wish) (t : ℕ) (c : Crew) (p : PassView)
+module _ {s : SharedView} {w : Wish} {t : ℕ} {c : Crew} {p : PassView}
     (quota : s.terms.quota ≡ quota_of w) (has : HasWorked s w t c) (gathered : HasGathered s c p) where
   pub parts : AreParts w.drops (parts_of c.droppers.items) p.receipts
   parts = record {
@@ -76,7 +76,7 @@ module _ (s : SharedView) (w : Wish) (t : ℕ) (c : Crew) (p : PassView)
 
   pub all_dropped : length p.receipts ≡ quota_of w
   all_dropped =
-      length-parts w.drops (parts_of c.droppers.items) p.receipts parts ∙ ap (λ (n : ℕ). n * w.drops) many_parts
+      length-parts parts ∙ ap (λ (n : ℕ). n * w.drops) many_parts
 
   pub within : AllBelow (length p.receipts) p.receipts
   within =

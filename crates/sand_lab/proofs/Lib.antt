@@ -1,16 +1,12 @@
 pub mod RowsInBands
 pub mod EpochIsClosed
 pub mod OneEpochMore
-pub mod BandsJoinToAll
-pub mod JournalSites
 pub mod EachNumberOnce
 pub mod RunHasOneOutcome
 pub mod JournalFollowsStreams
-pub mod SitesOfOneDropper
 pub mod EachAtItsPlace
 pub mod EntriesAtNumbers
 pub mod SheetLengths
 pub mod OccurrencesInStreams
 pub mod OneTurnMore
-pub mod DropperDropsAll
 pub mod CrewHasWorked

@@ -37,9 +37,7 @@ alike_more r q rs qs same tallies rest = record {
   ones = λ k. same k ∷ rest.ones k;
   tallies = λ i.
       let mine = occurrences-append r.history (histories rs) i in
-      let theirs = occurrences-append q.history (histories qs) i in
-      let here = tallies i in
-      let after = rest.tallies i in omega arith;
+      omega (arith, occurrences-append q.history (histories qs) i, tallies i, rest.tallies i);
 }
 
 one_same : (r q : RecordView) → r.start ≡ q.start → r.settled ≡ q.settled → length r.history ≡ length q.history

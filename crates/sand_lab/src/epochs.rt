@@ -48,10 +48,7 @@ fn share(alloc: Global, start: &Pile, quota: u64) -> Result<(SharedPile, Pass), 
     ensures first { IfOk result (λ r. r.1 ≡ unshared r.0 quota) }
     ensures memory { IfErr result IsMemory }
 {
-    match SharedPile::new(alloc, start, quota) {
-        Ok(shared) => Ok(shared),
-        Err(fault) => Err(LabFault::of_shared(fault)),
-    }
+    SharedPile::new(alloc, start, quota).map_err(LabFault::of_shared)
 }
 
 // Settles a pile with a pass that has gathered everything, and makes the journal and the record.
@@ -125,10 +122,7 @@ impl ClosedEpoch {
         } else {
             self.closed.copy_with_room(alloc, drops as usize)
         };
-        match copied {
-            Ok(copy) => Ok(copy),
-            Err(fault) => Err(LabFault::of_shared(fault)),
-        }
+        copied.map_err(LabFault::of_shared)
     }
 
     /// Publishes the record at the epoch's place in the album, and returns it with what else is kept of the epoch.

@@ -95,13 +95,7 @@ fn gather_droppers(
 {
     let mut all = Vec::with_capacity(alloc, droppers.len())?;
     for dropper in droppers {
-        let Dropper {
-            who: _,
-            sites: _,
-            batch: _,
-            counts: _,
-            pass,
-        } = dropper;
+        let Dropper { pass, .. } = dropper;
         let receipts = take_in_receipts(alloc, pile, first, pass)?;
         all.push_reserved(receipts);
     }
@@ -130,12 +124,7 @@ fn gather_workers(
 {
     let mut all = Vec::with_capacity(alloc, workers.len())?;
     for worker in workers {
-        let Worker {
-            who: _,
-            swept,
-            last: _,
-            pass,
-        } = worker;
+        let Worker { swept, pass, .. } = worker;
         let _none = take_in(alloc, pile, first, pass)?;
         all.push_reserved(swept);
     }
@@ -158,11 +147,7 @@ fn gather_observers(
 {
     let mut all = Vec::with_capacity(alloc, observers.len())?;
     for observer in observers {
-        let Observer {
-            who: _,
-            tallies,
-            pass,
-        } = observer;
+        let Observer { tallies, pass, .. } = observer;
         let _none = take_in_receipts(alloc, pile, first, pass)?;
         all.push_reserved(tallies);
     }

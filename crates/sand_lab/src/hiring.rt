@@ -19,27 +19,6 @@ use sand_shared::{Pass, SharedPile, SiteCounts};
 use sand_streams::{SiteReader, stream_of};
 use std::alloc::{AllocError, Global};
 
-// A pass with `quota` grains that the first one has left.
-fn split_quota(
-    alloc: Global,
-    pile: &SharedPile,
-    first: &mut Pass,
-    quota: u64,
-) -> Result<Pass, LabFault>
-    requires of_pile { IsPassOf pile.now first.old }
-    requires left { quota ≤ first.old.left }
-    ensures of_pile { IsPassOf pile.now first.new }
-    ensures first { OnOk result (first.new ≡ record first.old { left = first.old.left - quota }) }
-    ensures child { IfOk result
-        (λ c. c ≡ record first.old { left = quota; receipts = []; rows = no_rows; counts = [] }) }
-    ensures memory { IfErr result IsMemory }
-{
-    match pile.split(alloc, first, quota) {
-        Ok(pass) => Ok(pass),
-        Err(fault) => Err(LabFault::of_split(fault)),
-    }
-}
-
 // The droppers, each with its part of the quota, its stream, and room for a batch.
 fn hire_droppers(
     alloc: Global,
@@ -59,7 +38,10 @@ fn hire_droppers(
 {
     let mut droppers = Vec::with_capacity(alloc, wish.droppers as usize)?;
     for who in 0..wish.droppers {
-        let pass = split_quota(alloc, pile, first, u64::from(wish.drops))?;
+        let pass = match pile.split(alloc, first, u64::from(wish.drops)) {
+            Ok(pass) => pass,
+            Err(fault) => return Err(LabFault::of_split(fault)),
+        };
         let sites = SiteReader::new(shape, wish.seed, stream_of(epoch, who));
         let batch = Vec::with_capacity(alloc, batch_size(wish.drops) as usize)?;
         let counts = SiteCounts::new(alloc, shape)?;
@@ -89,34 +71,6 @@ fn band_of(shape: Shape, workers: u32, who: u32) -> (u16, u16)
     (begin as u16, end as u16)
 }
 
-// A pass with the last `rows` rows of the first one.
-fn split_band(
-    alloc: Global,
-    pile: &SharedPile,
-    first: &mut Pass,
-    rows: u16,
-) -> Result<Pass, LabFault>
-    requires of_pile { IsPassOf pile.now first.old }
-    requires rows { rows ≤ count_of first.old.rows }
-    ensures of_pile { IsPassOf pile.now first.new }
-    ensures first { OnOk result (first.new ≡ record first.old {
-      rows = upper_rows first.old.rows rows;
-      counts = take (sites_kept first.old rows) first.old.counts;
-    }) }
-    ensures child { IfOk result (λ c. c ≡ record first.old {
-      left = 0;
-      receipts = [];
-      rows = lower_rows first.old.rows rows;
-      counts = drop (sites_kept first.old rows) first.old.counts;
-    }) }
-    ensures memory { IfErr result IsMemory }
-{
-    match pile.split_rows(alloc, first, rows) {
-        Ok(pass) => Ok(pass),
-        Err(fault) => Err(LabFault::of_split(fault)),
-    }
-}
-
 // The workers, each with its band of rows. The last one comes first, because a split gives the last rows away.
 fn hire_workers(
     alloc: Global,
@@ -137,7 +91,10 @@ fn hire_workers(
     for done in 0..workers {
         let who = workers - 1 - done;
         let (begin, end) = band_of(shape, workers, who);
-        let pass = split_band(alloc, pile, first, end - begin)?;
+        let pass = match pile.split_rows(alloc, first, end - begin) {
+            Ok(pass) => pass,
+            Err(fault) => return Err(LabFault::of_split(fault)),
+        };
         let worker = Worker {
             who,
             swept: 0,
@@ -167,7 +124,10 @@ fn hire_observers(
 {
     let mut hired = Vec::with_capacity(alloc, observers as usize)?;
     for who in 0..observers {
-        let pass = split_quota(alloc, pile, first, 0)?;
+        let pass = match pile.split(alloc, first, 0) {
+            Ok(pass) => pass,
+            Err(fault) => return Err(LabFault::of_split(fault)),
+        };
         let tallies = Vec::with_capacity(alloc, TALLIES as usize)?;
         hired.push_reserved(Observer { who, tallies, pass });
     }

@@ -93,24 +93,6 @@ pub(crate) fn work_and_make_blank<R: Threads + Sync, G: Gate>(
     blank
 }
 
-// Settles the rest of a pile with a pass that has gathered everything, so the only error is Memory.
-fn settle_gathered(
-    alloc: Global,
-    pile: &SharedPile,
-    all: &mut BarePass,
-) -> Result<Settled, LabFault>
-    requires of_pile { IsPassOf pile.now all.old }
-    requires whole { IsWhole pile.now.terms all.old }
-    ensures pass { all.new ≡ all.old }
-    ensures rest { IfOk result (IsRestOf pile.now.terms all.old) }
-    ensures memory { IfErr result IsMemory }
-{
-    match pile.settle_rest(alloc, all) {
-        Ok(rest) => Ok(rest),
-        Err(fault) => Err(LabFault::of_close(fault)),
-    }
-}
-
 /// Settles the rest of a pile while another thread, if one can be made, writes the journal of all receipts. The only
 /// error is Memory.
 pub(crate) fn settle_and_write_journal<R: Threads + Sync>(
@@ -143,7 +125,7 @@ pub(crate) fn settle_and_write_journal<R: Threads + Sync>(
             ensures pass { all.exit.now ≡ all.entry.now }
             ensures rest { IfOk result (IsRestOf pile.entry.now.terms all.entry.now) }
             ensures memory { IfErr result IsMemory }
-        { settle_gathered(alloc, pile, all) },
+        { pile.settle_rest(alloc, all).map_err(LabFault::of_close) },
     );
     rest
 }

@@ -1,22 +1,6 @@
 //! The report of a run: a record of each epoch and one of all, the journals, and what workers and observers found.
 
-ghost use Rattle.std.specs.Prelude.{
-  ◌≡◌,
-  ◌+◌,
-  ◌<◌,
-  ◌≤◌,
-  [],
-  length,
-  sum,
-  slice_index,
-  slice_index_or,
-  vec_len,
-  vec_capacity,
-  IfOk,
-  IfErr,
-  OnOk,
-  OnErr,
-};
+ghost use Rattle.std.specs.Prelude.{◌≡◌, ◌+◌, ◌<◌, ◌≤◌, [], length, sum, slice_index, slice_index_or, vec_len, vec_capacity, IfOk, IfErr, OnOk, OnErr};
 ghost use Rattle.sand_lab.specs.Faults.{IsMemory};
 ghost use Rattle.sand_lab.specs.Reports.{HasGrown, IsBoth, report_of, sheet_at};
 ghost use Rattle.sand_model.specs.Piles.{most_grains};
@@ -145,10 +129,7 @@ fn append(alloc: Global, total: &mut Record, next: &Record) -> Result<(), LabFau
     ensures unchanged { OnErr result (total.new ≡ total.old) }
     ensures memory { IfErr result IsMemory }
 {
-    match total.append(alloc, next) {
-        Ok(()) => Ok(()),
-        Err(fault) => Err(LabFault::of_shared(fault)),
-    }
+    total.append(alloc, next).map_err(LabFault::of_shared)
 }
 
 // Makes room for one more epoch.

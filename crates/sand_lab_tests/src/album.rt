@@ -4,9 +4,10 @@ ghost use Rattle.std.specs.Prelude.{◌≡◌, ◌<◌, length};
 ghost use Rattle.sand_lab.specs.Albums.{IsPlace};
 
 use crate::setup::TWO_EPOCHS;
-use sand_lab::{Album, Gate, LabFault, Note, Open, Role, Wish};
+use sand_lab::{Album, Gate, LabFault, Note, Open, Role};
 use sand_testing::piles::one_site;
 use sand_testing::runs::{QUIET, run_into};
+use sand_testing::wish;
 use std::sync::atomic::AtomicU64;
 use std::sync::atomic::Ordering::SeqCst;
 use std::test::Fail;
@@ -25,7 +26,7 @@ fn seen(album: &Album, k: u32, note: &mut Note) -> Option<(u32, u64)>
 #[test]
 fn a_place_is_set_once(rt: HostRuntime) -> Result<(), Fail> {
     let start = one_site(rt.alloc(), 0)?;
-    let wish = Wish { drops: 3, ..QUIET };
+    let wish = wish!(drops: 3);
     let album = Album::new(rt.alloc(), 1)?;
     let mut note = album.note(0);
     assert_eq!(rt; seen(&album, 0, &mut note), None);
@@ -110,11 +111,7 @@ impl Gate for Watch<'_> {
 #[test]
 fn an_epoch_is_shown_before_the_next_one(rt: HostRuntime) -> Result<(), Fail> {
     let start = one_site(rt.alloc(), 0)?;
-    let wish = Wish {
-        drops: 1,
-        epochs: 4,
-        ..QUIET
-    };
+    let wish = wish!(drops: 1, epochs: 4);
     let album = Album::new(rt.alloc(), 4)?;
     let watch = Watch {
         album: &album,

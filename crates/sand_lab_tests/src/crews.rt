@@ -77,32 +77,6 @@ fn half_of(alloc: Global, pile: &SharedPile, pass: &mut Pass) -> Option<Pass>
     }
 }
 
-// The passes of two threads, joined.
-fn gathered(
-    alloc: Global,
-    pile: &SharedPile,
-    one: Option<Pass>,
-    other: Option<Pass>,
-) -> Option<Pass>
-    requires one { IfSome one (λ p. IsPassOf pile.now p) }
-    requires other { IfSome other (λ p. IsPassOf pile.now p) }
-    ensures { IfSome result (λ p. IsPassOf pile.now p) }
-{
-    match one {
-        Some(one) => match other {
-            Some(other) => joined(alloc, pile, one, other),
-            None => {
-                drop(one);
-                None
-            }
-        },
-        None => {
-            drop(other);
-            None
-        }
-    }
-}
-
 // Runs 2^depth threads, each with its part of the pass.
 fn crew<R: Threads + Sync>(
     rt: (&R, Global),
@@ -133,7 +107,8 @@ fn crew<R: Threads + Sync>(
             ensures { IfSome result (λ p. IsPassOf pile.entry.now p) }
         { crew(rt, start, pile, meeting, half, below) },
     );
-    gathered(alloc, pile, one, other)
+    let (one, other) = one.zip(other)?;
+    joined(alloc, pile, one, other)
 }
 
 const HEIGHTS: [u64; 24] = [
@@ -148,25 +123,19 @@ const ODOMETER: [u64; 24] = [
 fn closed_by_eight<R: Threads + Sync>(rt: &R, alloc: Global, start: &Pile) -> Option<Record> {
     let (pile, pass) = SharedPile::new(alloc, start, 32).ok()?;
     let meeting = Meeting::new();
-    match crew((rt, alloc), start, &pile, &meeting, pass, 3) {
-        Some(pass) => pile.close(alloc, pass).ok(),
-        None => {
-            drop(pile);
-            None
-        }
-    }
+    let pass = crew((rt, alloc), start, &pile, &meeting, pass, 3)?;
+    pile.close(alloc, pass).ok()
 }
 
 // Whether eight threads have the same result as one.
 fn are_as_one<R: Threads + Sync>(rt: &R, alloc: Global, start: &Pile) -> bool {
-    match closed_by_eight(rt, alloc, start) {
-        Some(record) => {
-            let is_right = is_record(&record, record.history(), &HEIGHTS, &ODOMETER, 63);
-            drop(record);
-            is_right
-        }
-        None => false,
-    }
+    closed_by_eight(rt, alloc, start).is_some_and(|record| is_record(
+        &record,
+        record.history(),
+        &HEIGHTS,
+        &ODOMETER,
+        63,
+    ))
 }
 
 #[test]

@@ -9,15 +9,6 @@ use sand_testing::pile_with_passes::{Left, PileWithPasses, Start, both_leave, is
 use sand_testing::piles::one_site;
 use std::test::Fail;
 
-// One site with this height, and this quota.
-fn site<'a>(height: &'a [u64; 1], quota: u64) -> Start<'a> {
-    Start {
-        sides: (1, 1),
-        heights: height,
-        quota,
-    }
-}
-
 // A grain of the quota went to a child that was thrown away.
 #[test]
 fn a_quota_that_is_thrown_away_stays_missing(rt: HostRuntime) {
@@ -31,21 +22,19 @@ fn a_quota_that_is_thrown_away_stays_missing(rt: HostRuntime) {
         (DropAt(0, 0), Fault(13)),
         (Split(0, 1), Fault(10)),
     ];
-    let pile = PileWithPasses::played(rt.alloc(), site(&[0], 5), &drops).expect(&rt, "four drops");
+    let pile = PileWithPasses::played(rt.alloc(), Start((1, 1), &[0], 5), &drops).expect(
+        &rt,
+        "four drops",
+    );
     let pile = pile.still_missing(rt.alloc()).expect(&rt, "a grain");
     assert!(rt; is_there(pile.play(rt.alloc(), &[(Tally(0), Number(4))])));
 }
 
 #[test]
 fn ends_with_quota_left(rt: HostRuntime) {
-    let left = Left {
-        history: &[0],
-        heights: &[1],
-        odometer: &[0],
-        lost: 0,
-    };
+    let left = Left(&[0], &[1], &[0], 0);
     let drop = [(DropAt(0, 0), Number(0))];
-    assert!(rt; both_leave(rt.alloc(), site(&[0], 2), &drop, left));
+    assert!(rt; both_leave(rt.alloc(), Start((1, 1), &[0], 2), &drop, left));
 }
 
 #[test]
@@ -61,26 +50,23 @@ fn no_quota_past_the_limit(rt: HostRuntime) -> Result<(), Fail> {
 
 #[test]
 fn a_full_pile_takes_no_drop(rt: HostRuntime) {
-    let left = Left {
-        history: &[],
-        heights: &[3],
-        odometer: &[1_073_741_823],
-        lost: 4_294_967_292,
-    };
+    let left = Left(&[], &[3], &[1_073_741_823], 4_294_967_292);
     let calls = [(DropAt(0, 0), Fault(13)), (Tally(0), Number(0))];
-    assert!(rt; both_leave(rt.alloc(), site(&[4_294_967_295], 0), &calls, left));
+    assert!(rt; both_leave(rt.alloc(), Start((1, 1), &[4_294_967_295], 0), &calls, left));
 }
 
 #[test]
 fn the_last_grain_below_the_limit(rt: HostRuntime) {
-    let left = Left {
-        history: &[0],
-        heights: &[3],
-        odometer: &[274_877_906_943],
-        lost: 1_099_511_627_772,
-    };
+    let left = Left(&[0], &[3], &[274_877_906_943], 1_099_511_627_772);
     let calls = [(DropAt(0, 0), Number(0)), (DropAt(0, 0), Fault(13))];
-    assert!(rt; both_leave(rt.alloc(), site(&[GRAIN_LIMIT - 1], 1), &calls, left));
+    assert!(rt;
+        both_leave(
+            rt.alloc(),
+            Start((1, 1), &[GRAIN_LIMIT - 1], 1),
+            &calls,
+            left
+        )
+    );
 }
 
 // No contract requires a tally to take a step, so only a test shows that it includes what others have drawn since.
@@ -92,7 +78,7 @@ fn a_tally_is_not_stale(rt: HostRuntime) {
         (DropAt(0, 0), Number(1)),
         (Tally(1), Number(2)),
     ];
-    assert!(rt; is_there(PileWithPasses::played(rt.alloc(), site(&[0], 2), &calls)));
+    assert!(rt; is_there(PileWithPasses::played(rt.alloc(), Start((1, 1), &[0], 2), &calls)));
 }
 
 #[test]
@@ -108,23 +94,14 @@ fn a_tally_has_all_drops_that_the_pass_has_seen(rt: HostRuntime) {
         (Split(0, 0), Done),
         (Tally(1), Number(6)),
     ];
-    assert!(rt; is_there(PileWithPasses::played(rt.alloc(), site(&[0], 6), &calls)));
+    assert!(rt; is_there(PileWithPasses::played(rt.alloc(), Start((1, 1), &[0], 6), &calls)));
 }
 
 // The child drops first, and its receipt comes last.
 #[test]
 fn two_passes_drop_in_turn(rt: HostRuntime) {
-    let start = Start {
-        sides: (2, 1),
-        heights: &[0, 0],
-        quota: 2,
-    };
-    let left = Left {
-        history: &[1, 0],
-        heights: &[1, 1],
-        odometer: &[0, 0],
-        lost: 0,
-    };
+    let start = Start((2, 1), &[0, 0], 2);
+    let left = Left(&[1, 0], &[1, 1], &[0, 0], 0);
     let calls = [
         (Split(0, 1), Done),
         (DropAt(1, 1), Number(0)),
@@ -140,17 +117,8 @@ fn two_passes_drop_in_turn(rt: HostRuntime) {
 // A list is dropped after a single grain.
 #[test]
 fn a_list_is_dropped_in_its_order(rt: HostRuntime) {
-    let start = Start {
-        sides: (3, 1),
-        heights: &[0, 3, 0],
-        quota: 4,
-    };
-    let left = Left {
-        history: &[2, 1, 0, 1],
-        heights: &[2, 1, 2],
-        odometer: &[0, 1, 0],
-        lost: 2,
-    };
+    let start = Start((3, 1), &[0, 3, 0], 4);
+    let left = Left(&[2, 1, 0, 1], &[2, 1, 2], &[0, 1, 0], 2);
     let calls = [
         (DropAt(0, 2), Number(0)),
         (DropAll(0, &[1, 0, 1]), Number(1)),

@@ -4,7 +4,7 @@ use crate::holding::{Hold, Holds, dropper, observer, worker};
 use crate::setup::{run_gated, run_on_a_site};
 use sand_lab::{Entry, Wish};
 use sand_testing::piles::{one_site, open_pile};
-use sand_testing::runs::QUIET;
+use sand_testing::wish;
 use std::alloc::{AllocError, Global};
 use std::test::Fail;
 use std::thread::Threads;
@@ -23,11 +23,7 @@ fn hold_each_other<R: Threads + Sync>(
 
 #[test]
 fn two_droppers_meet(rt: HostRuntime) -> Result<(), Fail> {
-    let wish = Wish {
-        droppers: 2,
-        drops: 1,
-        ..QUIET
-    };
+    let wish = wish!(droppers: 2, drops: 1);
     let holds = [
         Hold::new(dropper(0, 0), dropper(1, 0)),
         Hold::new(dropper(1, 0), dropper(0, 0)),
@@ -39,11 +35,7 @@ fn two_droppers_meet(rt: HostRuntime) -> Result<(), Fail> {
 // The drop and the second sweep each wait for the other to begin.
 #[test]
 fn a_worker_sweeps_while_a_dropper_drops(rt: HostRuntime) -> Result<(), Fail> {
-    let wish = Wish {
-        drops: 1,
-        sweeps: 2,
-        ..QUIET
-    };
+    let wish = wish!(drops: 1, sweeps: 2);
     let holds = [
         Hold::new(dropper(0, 0), worker(1)),
         Hold::new(worker(1), dropper(0, 0)),
@@ -55,12 +47,7 @@ fn a_worker_sweeps_while_a_dropper_drops(rt: HostRuntime) -> Result<(), Fail> {
 // Each is held until both others have begun.
 #[test]
 fn a_dropper_a_worker_and_an_observer_meet(rt: HostRuntime) -> Result<(), Fail> {
-    let wish = Wish {
-        drops: 1,
-        sweeps: 1,
-        observers: 1,
-        ..QUIET
-    };
+    let wish = wish!(drops: 1, sweeps: 1, observers: 1);
     let (drop, sweep, tally) = (dropper(0, 0), worker(0), observer(0));
     let holds = [
         Hold::new(drop, sweep),
@@ -83,11 +70,7 @@ fn tally_before<R: Threads + Sync>(
     next: u32,
 ) -> Result<Option<u64>, Fail> {
     let start = one_site(alloc, 0)?;
-    let wish = Wish {
-        drops,
-        observers: 1,
-        ..QUIET
-    };
+    let wish = wish!(drops: drops, observers: 1);
     let holds = [
         Hold::new(dropper(0, 0), observer(0)),
         Hold::new(observer(0), dropper(0, next)),
@@ -120,13 +103,7 @@ fn in_turn(alloc: Global, first: u32, second: u32) -> Result<Vec<Hold>, AllocErr
 
 // Whether two droppers alternate in the first 66 drops of a journal.
 fn alternates(journal: &[Entry], droppers: [u32; 2]) -> bool {
-    for n in 0..66 {
-        let dropper = journal.get(n).map(|entry| entry.dropper);
-        if dropper != Some(droppers[n % 2]) {
-            return false;
-        }
-    }
-    true
+    (0..66).all(|n| journal.get(n).map(|entry| entry.dropper) == Some(droppers[n % 2]))
 }
 
 // Whether two droppers of a run on one site alternate, with none released early.
@@ -137,11 +114,7 @@ fn drop_in_turn<R: Threads + Sync>(
     second: u32,
 ) -> Result<bool, Fail> {
     let start = one_site(alloc, 0)?;
-    let wish = Wish {
-        droppers: 2,
-        drops: 34,
-        ..QUIET
-    };
+    let wish = wish!(droppers: 2, drops: 34);
     let holds = in_turn(alloc, first, second)?;
     let gate = Holds::new(holds.as_slice());
     let report = run_gated(rt, alloc, start, wish, &gate)?;
@@ -163,12 +136,7 @@ fn the_journal_has_the_order_of_the_drops(rt: HostRuntime) -> Result<(), Fail> {
 #[test]
 fn a_worker_sweeps_after_its_gate(rt: HostRuntime) -> Result<(), Fail> {
     let start = open_pile(rt.alloc(), 2, 1, &[3, 3])?;
-    let wish = Wish {
-        seed: 1,
-        drops: 2,
-        sweeps: 1,
-        ..QUIET
-    };
+    let wish = wish!(seed: 1, drops: 2, sweeps: 1);
     let holds = [
         Hold::new(dropper(0, 0), worker(0)),
         Hold::new(worker(0), dropper(0, 1)),
@@ -185,13 +153,7 @@ fn a_worker_sweeps_after_its_gate(rt: HostRuntime) -> Result<(), Fail> {
 #[test]
 fn rounds_sweep_until_nothing_topples(rt: HostRuntime) -> Result<(), Fail> {
     let start = open_pile(rt.alloc(), 8, 8, &[3; 64])?;
-    let wish = Wish {
-        seed: 42,
-        droppers: 2,
-        drops: 50,
-        sweeps: 600,
-        ..QUIET
-    };
+    let wish = wish!(seed: 42, droppers: 2, drops: 50, sweeps: 600);
     let holds = [
         Hold::new(dropper(0, 0), worker(599)),
         Hold::new(dropper(1, 0), worker(599)),

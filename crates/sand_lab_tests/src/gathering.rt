@@ -11,11 +11,7 @@ use sand_testing::pile_with_passes::{
 use std::alloc::Global;
 
 // Three rows of one site each.
-const ROWS: Start<'static> = Start {
-    sides: (1, 3),
-    heights: &[0, 0, 0],
-    quota: 0,
-};
+const ROWS: Start<'static> = Start((1, 3), &[0, 0, 0], 0);
 
 #[test]
 fn rows_are_handed_on(rt: HostRuntime) {
@@ -52,11 +48,7 @@ fn rows_are_joined_from_the_last_one(rt: HostRuntime) {
 // The list has a drop, the last row and the middle one. The last row is refused until the middle one is there.
 #[test]
 fn a_list_is_joined_up_to_rows_that_are_apart(rt: HostRuntime) {
-    let start = Start {
-        sides: (1, 3),
-        heights: &[0, 0, 0],
-        quota: 1,
-    };
+    let start = Start((1, 3), &[0, 0, 0], 1);
     let calls = [
         (Split(0, 1), Done),
         (DropAt(1, 2), Number(0)),
@@ -91,17 +83,8 @@ fn rows_that_are_thrown_away_stay_missing(rt: HostRuntime) {
 
 // Whether a pile, with its quota and last row split off to two children, ends once both are joined and not before.
 fn ends_once_gathered(alloc: Global, ending: Ending) -> Option<bool> {
-    let start = Start {
-        sides: (1, 2),
-        heights: &[0, 0],
-        quota: 1,
-    };
-    let left = Left {
-        history: &[1],
-        heights: &[0, 1],
-        odometer: &[0, 0],
-        lost: 0,
-    };
+    let start = Start((1, 2), &[0, 0], 1);
+    let left = Left(&[1], &[0, 1], &[0, 0], 0);
     let split = [
         (SplitRows(0, 1), Done),
         (Split(0, 1), Done),
@@ -123,15 +106,6 @@ fn ends_once_all_is_gathered(rt: HostRuntime) {
     }
 }
 
-// One site with this height, and one grain to drop.
-fn grain<'a>(height: &'a [u64; 1]) -> Start<'a> {
-    Start {
-        sides: (1, 1),
-        heights: height,
-        quota: 1,
-    }
-}
-
 #[test]
 fn a_receipt_that_is_thrown_away_stays_missing(rt: HostRuntime) {
     let calls = [
@@ -139,7 +113,9 @@ fn a_receipt_that_is_thrown_away_stays_missing(rt: HostRuntime) {
         (DropAt(1, 0), Number(0)),
         (ThrowAway(1), Done),
     ];
-    let pile = PileWithPasses::played(rt.alloc(), grain(&[0]), &calls).expect(&rt, "a drop");
+    let pile = PileWithPasses::played(rt.alloc(), Start((1, 1), &[0], 1), &calls).expect(
+        &rt, "a drop",
+    );
     let pile = pile.still_missing(rt.alloc()).expect(&rt, "a receipt");
     assert!(rt; is_there(pile.play(rt.alloc(), &[(Tally(0), Number(1))])));
 }
@@ -151,29 +127,19 @@ fn a_child_that_had_nothing_may_be_thrown_away(rt: HostRuntime) {
         (DropAt(0, 0), Number(0)),
         (ThrowAway(1), Done),
     ];
-    let left = Left {
-        history: &[0],
-        heights: &[1],
-        odometer: &[0],
-        lost: 0,
-    };
-    assert!(rt; both_leave(rt.alloc(), grain(&[0]), &calls, left));
+    let left = Left(&[0], &[1], &[0], 0);
+    assert!(rt; both_leave(rt.alloc(), Start((1, 1), &[0], 1), &calls, left));
 }
 
 // Whether a pile still ends after both endings failed a hundred times.
 fn ends_after_refusals(alloc: Global, ending: Ending) -> Option<bool> {
     let split = [(Split(0, 1), Done), (DropAt(1, 0), Number(0))];
-    let mut pile = PileWithPasses::played(alloc, grain(&[3]), &split)?;
+    let mut pile = PileWithPasses::played(alloc, Start((1, 1), &[3], 1), &split)?;
     for _ in 0..100 {
         pile = pile.still_missing(alloc)?;
     }
     let pile = pile.play(alloc, &[(Join(0, 1), Done)])?;
-    let left = Left {
-        history: &[0],
-        heights: &[0],
-        odometer: &[1],
-        lost: 4,
-    };
+    let left = Left(&[0], &[0], &[1], 4);
     Some(pile.leaves(alloc, ending, left))
 }
 
@@ -187,17 +153,8 @@ fn ends_after_a_hundred_refusals(rt: HostRuntime) {
 // The upper row topples twice in place. The lower one then has 9 grains, which remain to be settled.
 #[test]
 fn bare_passes_are_gathered_and_settled(rt: HostRuntime) {
-    let start = Start {
-        sides: (1, 2),
-        heights: &[8, 7],
-        quota: 0,
-    };
-    let left = Left {
-        history: &[],
-        heights: &[2, 1],
-        odometer: &[0, 2],
-        lost: 6,
-    };
+    let start = Start((1, 2), &[8, 7], 0);
+    let left = Left(&[], &[2, 1], &[0, 2], 6);
     let upper = [
         (SplitRows(0, 1), Done),
         (Sweep(0), Number(2)),

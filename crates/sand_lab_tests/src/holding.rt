@@ -9,11 +9,7 @@ const PATIENCE: u64 = 1_000_000_000;
 
 /// A turn of a thread: its role, its number in that role, and the number of the turn.
 #[derive(Clone, Copy, PartialEq, Eq)]
-pub struct Turn {
-    role: Role,
-    who: u32,
-    turn: u32,
-}
+pub struct Turn(Role, u32, u32);
 
 /// A turn at which a thread is held until another turn has begun.
 #[derive(Drop)]
@@ -75,7 +71,7 @@ impl<'a> Holds<'a> {
 
 impl Gate for Holds<'_> {
     fn turn(&self, role: Role, who: u32, turn: u32) {
-        let turn = Turn { role, who, turn };
+        let turn = Turn(role, who, turn);
         self.begin(turn);
         for hold in self.holds {
             if hold.held == turn && !hold.has_begun() {
@@ -86,25 +82,13 @@ impl Gate for Holds<'_> {
 }
 
 pub fn dropper(who: u32, turn: u32) -> Turn {
-    Turn {
-        role: Role::Dropper,
-        who,
-        turn,
-    }
+    Turn(Role::Dropper, who, turn)
 }
 
 pub fn worker(turn: u32) -> Turn {
-    Turn {
-        role: Role::Worker,
-        who: 0,
-        turn,
-    }
+    Turn(Role::Worker, 0, turn)
 }
 
 pub fn observer(turn: u32) -> Turn {
-    Turn {
-        role: Role::Observer,
-        who: 0,
-        turn,
-    }
+    Turn(Role::Observer, 0, turn)
 }

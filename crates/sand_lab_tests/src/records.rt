@@ -10,41 +10,19 @@ use std::test::Fail;
 fn after_the_first(alloc: Global, first: &Record) -> Result<Record, Fail> {
     let next = dropped_on(alloc, first.pile(), 1)?;
     if !may_follow(first, &next) {
-        drop(next);
         return Err("too many grains".into());
     }
-    let both = first.followed_by(alloc, &next);
-    drop(next);
-    Ok(both?)
-}
-
-fn append_one(alloc: Global, record: &mut Record) -> Result<(), Fail> {
-    let next = dropped_on(alloc, record.pile(), 1)?;
-    if !may_follow(record, &next) {
-        drop(next);
-        return Err("too many grains".into());
-    }
-    let appended = record.append(alloc, &next);
-    drop(next);
-    appended?;
-    Ok(())
+    Ok(first.followed_by(alloc, &next)?)
 }
 
 // A record with one more drop appended.
 fn grown(alloc: Global, mut record: Record) -> Result<Record, Fail> {
-    match append_one(alloc, &mut record) {
-        Ok(()) => Ok(record),
-        Err(fault) => {
-            drop(record);
-            Err(fault)
-        }
+    let next = dropped_on(alloc, record.pile(), 1)?;
+    if !may_follow(&record, &next) {
+        return Err("too many grains".into());
     }
-}
-
-// A copy with room for one more drop, which is then appended.
-fn grown_copy(alloc: Global, record: &Record) -> Result<Record, Fail> {
-    let copy = record.copy_with_room(alloc, 1)?;
-    grown(alloc, copy)
+    record.append(alloc, &next)?;
+    Ok(record)
 }
 
 fn is_three(record: &Record) -> bool {
@@ -59,10 +37,9 @@ fn is_four(record: Record) -> bool {
 
 // Whether three drops have the right continuation, by a new record and by a copy that grows.
 fn is_continued(alloc: Global, first: &Record) -> Result<bool, Fail> {
-    let both = after_the_first(alloc, first)?;
-    let is_both = is_four(both);
-    let grown = grown_copy(alloc, first)?;
-    Ok(is_four(grown) && is_both)
+    let is_both = is_four(after_the_first(alloc, first)?);
+    let roomy = first.copy_with_room(alloc, 1)?;
+    Ok(is_four(grown(alloc, roomy)?) && is_both)
 }
 
 // Three drops on an empty site, then one that topples it.

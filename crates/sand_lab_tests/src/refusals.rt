@@ -1,8 +1,9 @@
 //! Runs that fail.
 
-use sand_lab::{Album, Open, Wish};
+use sand_lab::{Album, Open};
 use sand_testing::piles::one_site;
-use sand_testing::runs::{QUIET, run_into};
+use sand_testing::runs::run_into;
+use sand_testing::wish;
 use std::alloc::Global;
 use std::test::Fail;
 use std::thread::Threads;
@@ -15,21 +16,11 @@ fn fault_of<R: Threads + Sync>(
     epochs: u32,
 ) -> Result<u32, Fail> {
     let start = one_site(alloc, height)?;
-    let wish = Wish {
-        drops: 1,
-        epochs,
-        ..QUIET
-    };
+    let wish = wish!(drops: 1, epochs: epochs);
     let album = Album::new(alloc, 1)?;
     let ran = run_into(rt, alloc, &start, wish, &Open, &album);
     drop((start, album));
-    match ran {
-        Ok(report) => {
-            drop(report);
-            Ok(0)
-        }
-        Err(fault) => Ok(fault.number()),
-    }
+    Ok(ran.map_or_else(|fault| fault.number(), |_| 0))
 }
 
 // The fault that two epochs do not fit an album with one place comes first.

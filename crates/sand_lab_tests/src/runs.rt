@@ -1,22 +1,13 @@
 //! Runs on piles worked out by hand. The result does not depend on how the work is spread over threads, or on the order
 //! of their turns.
 
-use crate::setup::{Left, TWO_EPOCHS, is_left, leaves, run_gated};
-use sand_lab::{Open, Wish};
+use crate::setup::{Left, TWO_EPOCHS, leaves, run_gated};
+use sand_lab::Open;
 use sand_model::{Edge, GRAIN_LIMIT};
 use sand_testing::piles::{one_site, open_pile, pile_on};
 use sand_testing::records::is_record;
-use sand_testing::runs::QUIET;
+use sand_testing::wish;
 use std::test::Fail;
-
-// The result on one site.
-fn one_left<'a>(height: &'a [u64; 1], topplings: &'a [u64; 1], lost: u64) -> Left<'a> {
-    Left {
-        heights: height,
-        odometer: topplings,
-        lost,
-    }
-}
 
 // Whether these are sixteen tallies of six drops that never decrease.
 fn climbs(tallies: &[u64]) -> bool {
@@ -48,10 +39,7 @@ fn two_epochs_on_one_site(rt: HostRuntime) -> Result<(), Fail> {
 #[test]
 fn droppers_that_drop_nothing(rt: HostRuntime) -> Result<(), Fail> {
     let start = one_site(rt.alloc(), 0)?;
-    let wish = Wish {
-        droppers: 64,
-        ..QUIET
-    };
+    let wish = wish!(droppers: 64);
     let report = run_gated(&rt, rt.alloc(), start, wish, &Open)?;
     let [epoch] = report.records() else {
         panic!(rt; "one record");
@@ -65,28 +53,16 @@ fn droppers_that_drop_nothing(rt: HostRuntime) -> Result<(), Fail> {
 #[test]
 fn as_many_threads_as_there_may_be(rt: HostRuntime) -> Result<(), Fail> {
     let start = one_site(rt.alloc(), 0)?;
-    let wish = Wish {
-        droppers: 64,
-        drops: 1,
-        workers: 16,
-        sweeps: 3,
-        observers: 16,
-        ..QUIET
-    };
-    let left = one_left(&[0], &[16], 64);
-    assert!(rt; leaves(&rt, rt.alloc(), start, wish, left)?);
+    let wish = wish!(droppers: 64, drops: 1, workers: 16, sweeps: 3, observers: 16);
+    assert!(rt; leaves(&rt, rt.alloc(), start, wish, Left(&[0], &[16], 64))?);
     Ok(())
 }
 
 #[test]
 fn as_many_grains_as_the_limit(rt: HostRuntime) -> Result<(), Fail> {
     let start = one_site(rt.alloc(), GRAIN_LIMIT - 2)?;
-    let wish = Wish {
-        drops: 1,
-        epochs: 2,
-        ..QUIET
-    };
-    let left = one_left(&[3], &[274_877_906_943], 1_099_511_627_772);
+    let wish = wish!(drops: 1, epochs: 2);
+    let left = Left(&[3], &[274_877_906_943], 1_099_511_627_772);
     assert!(rt; leaves(&rt, rt.alloc(), start, wish, left)?);
     Ok(())
 }
@@ -95,67 +71,43 @@ fn as_many_grains_as_the_limit(rt: HostRuntime) -> Result<(), Fail> {
 fn three_droppers_on_a_cylinder(rt: HostRuntime) -> Result<(), Fail> {
     let heights = [2, 3, 1, 3, 5, 3, 3, 3, 0, 2, 3, 9, 3, 3, 1];
     let start = pile_on(rt.alloc(), 5, 3, Edge::Cylinder, &heights)?;
-    let wish = Wish {
-        seed: 11,
-        droppers: 3,
-        drops: 40,
-        epochs: 2,
-        workers: 2,
-        sweeps: 5,
-        ..QUIET
-    };
-    let left = Left {
-        heights: &[3, 1, 3, 3, 2, 2, 1, 1, 3, 1, 3, 3, 1, 3, 2],
-        odometer: &[24, 26, 23, 24, 24, 35, 36, 33, 34, 35, 26, 28, 26, 25, 26],
-        lost: 252,
-    };
+    let wish = wish!(seed: 11, droppers: 3, drops: 40, epochs: 2, workers: 2, sweeps: 5);
+    let left = Left(
+        &[3, 1, 3, 3, 2, 2, 1, 1, 3, 1, 3, 3, 1, 3, 2],
+        &[24, 26, 23, 24, 24, 35, 36, 33, 34, 35, 26, 28, 26, 25, 26],
+        252,
+    );
     assert!(rt; leaves(&rt, rt.alloc(), start, wish, left)?);
     Ok(())
 }
 
-// Workers, sweeps and observers.
-const SPREADS: [(u32, u32, u32); 8] = [
-    (1, 0, 0),
-    (1, 0, 3),
-    (1, 20, 0),
-    (1, 20, 3),
-    (8, 0, 0),
-    (8, 0, 3),
-    (8, 20, 0),
-    (8, 20, 3),
-];
-
 // The result of all drops of both droppers.
-const LEFT: Left<'static> = Left {
-    heights: &[
+const LEFT: Left<'static> = Left(
+    &[
         1, 2, 2, 1, 1, 3, 1, 3, 3, 1, 1, 3, 0, 2, 0, 2, 3, 2, 1, 3, 2, 2, 1, 1, 2, 3, 3, 2, 3, 2,
         1, 2, 2, 3, 2, 2, 0, 3, 2, 3, 3, 3, 1, 3, 2, 1, 3, 1, 1, 3, 0, 3, 3, 2, 3, 1, 2, 0, 2, 1,
         1, 2, 3, 0,
     ],
-    odometer: &[
+    &[
         5, 8, 10, 12, 12, 10, 8, 5, 8, 14, 17, 19, 19, 17, 14, 8, 11, 16, 20, 22, 22, 20, 17, 10,
         10, 16, 21, 23, 24, 22, 18, 10, 9, 16, 21, 24, 25, 22, 17, 10, 9, 15, 19, 21, 22, 20, 15,
         9, 8, 13, 16, 17, 18, 16, 13, 8, 5, 9, 11, 11, 11, 10, 8, 6,
     ],
-    lost: 272,
-};
+    272,
+);
 
-// Runs each spread twelve times.
+// Runs each of eight spreads over workers, with sweeps and observers or without, twelve times.
 #[test]
 fn the_same_however_it_is_spread(rt: HostRuntime) -> Result<(), Fail> {
     for n in 0..96 {
         let start = open_pile(rt.alloc(), 8, 8, &[3; 64])?;
-        let (workers, sweeps, observers) = SPREADS[n % 8];
-        let wish = Wish {
-            seed: 42,
-            droppers: 2,
-            drops: 50,
-            epochs: 2,
-            workers,
-            sweeps,
-            observers,
-        };
-        assert!(rt; leaves(&rt, rt.alloc(), start, wish, LEFT)?);
+        let (workers, sweeps, observers) = ([1, 8][n % 2], [0, 20][n / 2 % 2], [0, 3][n / 4 % 2]);
+        let wish = wish!(seed: 42, droppers: 2, drops: 50, epochs: 2,
+            workers: workers, sweeps: sweeps, observers: observers);
+        assert!(rt;
+            leaves(&rt, rt.alloc(), start, wish, LEFT)?,
+            "{workers} {sweeps} {observers}"
+        );
     }
     Ok(())
 }

@@ -5,22 +5,16 @@ ghost use Rattle.sand_lab.specs.Reports.{sheet_at};
 
 use sand_lab::{Album, Gate, LabFault, Open, Report, Wish};
 use sand_model::Pile;
-use sand_shared::Record;
 use sand_testing::piles::one_site;
 use sand_testing::records::is_record;
-use sand_testing::runs::{QUIET, run_into};
+use sand_testing::runs::run_into;
+use sand_testing::wish;
 use std::alloc::Global;
 use std::test::Fail;
 use std::thread::Threads;
 
 /// Two epochs, in which two droppers drop three grains each.
-pub const TWO_EPOCHS: Wish = Wish {
-    droppers: 2,
-    drops: 3,
-    epochs: 2,
-    observers: 2,
-    ..QUIET
-};
+pub const TWO_EPOCHS: Wish = wish!(droppers: 2, drops: 3, epochs: 2, observers: 2);
 
 /// The report of a run with an album of its own.
 pub fn run_gated<R: Threads + Sync, G: Gate>(
@@ -62,22 +56,7 @@ pub fn run_on_a_site<R: Threads + Sync, G: Gate>(
 
 /// The result in a record: the heights, the odometer and the grains lost.
 #[derive(Clone, Copy)]
-pub struct Left<'a> {
-    pub heights: &'a [u64],
-    pub odometer: &'a [u64],
-    pub lost: u64,
-}
-
-/// Whether a record has this result.
-pub fn is_left(record: &Record, left: Left<'_>) -> bool {
-    is_record(
-        record,
-        record.history(),
-        left.heights,
-        left.odometer,
-        left.lost,
-    )
-}
+pub struct Left<'a>(pub &'a [u64], pub &'a [u64], pub u64);
 
 /// Whether a run has this result.
 pub fn leaves<R: Threads + Sync>(
@@ -88,7 +67,8 @@ pub fn leaves<R: Threads + Sync>(
     left: Left<'_>,
 ) -> Result<bool, LabFault> {
     let report = run_gated(rt, alloc, start, wish, &Open)?;
-    let leaves = is_left(report.total(), left);
+    let (total, Left(heights, odometer, lost)) = (report.total(), left);
+    let leaves = is_record(total, total.history(), heights, odometer, lost);
     drop(report);
     Ok(leaves)
 }

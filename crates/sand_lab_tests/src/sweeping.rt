@@ -9,38 +9,20 @@ use std::test::Fail;
 
 #[test]
 fn sweeps_two_sites(rt: HostRuntime) {
-    let start = Start {
-        sides: (2, 1),
-        heights: &[4, 4],
-        quota: 0,
-    };
+    let start = Start((2, 1), &[4, 4], 0);
     let calls = [
         (Sweep(0), Number(2)),
         (Sweep(0), Number(0)),
         (Toppled(0, 0), Number(1)),
     ];
-    let left = Left {
-        history: &[],
-        heights: &[1, 1],
-        odometer: &[1, 1],
-        lost: 6,
-    };
+    let left = Left(&[], &[1, 1], &[1, 1], 6);
     assert!(rt; both_leave(rt.alloc(), start, &calls, left));
 }
 
 #[test]
 fn sweeps_a_square(rt: HostRuntime) {
-    let start = Start {
-        sides: (2, 2),
-        heights: &[4, 4, 4, 4],
-        quota: 0,
-    };
-    let left = Left {
-        history: &[],
-        heights: &[2, 2, 2, 2],
-        odometer: &[1, 1, 1, 1],
-        lost: 8,
-    };
+    let start = Start((2, 2), &[4, 4, 4, 4], 0);
+    let left = Left(&[], &[2, 2, 2, 2], &[1, 1, 1, 1], 8);
     let calls = [(Sweep(0), Number(4)), (Sweep(0), Number(0))];
     assert!(rt; both_leave(rt.alloc(), start, &calls, left));
 }
@@ -53,12 +35,7 @@ fn sweeps_a_cylinder(rt: HostRuntime) -> Result<(), Fail> {
     let pile = pile.ok_or("a shared pile")?;
     let calls = [(Sweep(0), Number(3)), (Sweep(0), Number(0))];
     let pile = pile.play(rt.alloc(), &calls).ok_or("two sweeps")?;
-    let left = Left {
-        history: &[],
-        heights: &[2, 2, 2],
-        odometer: &[1, 1, 1],
-        lost: 6,
-    };
+    let left = Left(&[], &[2, 2, 2], &[1, 1, 1], 6);
     assert!(rt; pile.leaves(rt.alloc(), Ending::Close, left));
     Ok(())
 }
@@ -67,11 +44,7 @@ fn sweeps_a_cylinder(rt: HostRuntime) -> Result<(), Fail> {
 // this one lacks the lower row and the quota.
 #[test]
 fn goes_once_over_the_rows_of_a_part(rt: HostRuntime) {
-    let start = Start {
-        sides: (2, 2),
-        heights: &[3, 4, 0, 0],
-        quota: 1,
-    };
+    let start = Start((2, 2), &[3, 4, 0, 0], 1);
     let calls = [
         (SplitRows(0, 1), Done),
         (Split(0, 1), Done),
@@ -83,18 +56,9 @@ fn goes_once_over_the_rows_of_a_part(rt: HostRuntime) {
 }
 
 /// Two rows of one site. Each topples once.
-pub(crate) const TWO_ROWS: Start<'static> = Start {
-    sides: (1, 2),
-    heights: &[4, 4],
-    quota: 0,
-};
+pub(crate) const TWO_ROWS: Start<'static> = Start((1, 2), &[4, 4], 0);
 
-pub(crate) const TWO_ROWS_SWEPT: Left<'static> = Left {
-    history: &[],
-    heights: &[1, 1],
-    odometer: &[1, 1],
-    lost: 6,
-};
+pub(crate) const TWO_ROWS_SWEPT: Left<'static> = Left(&[], &[1, 1], &[1, 1], 6);
 
 #[test]
 fn each_sweeps_its_own_row(rt: HostRuntime) {
@@ -117,22 +81,13 @@ fn each_sweeps_its_own_row(rt: HostRuntime) {
 // The first row has toppled twice in place; the other topples twice at the end.
 #[test]
 fn ends_with_what_a_row_left(rt: HostRuntime) {
-    let start = Start {
-        sides: (1, 2),
-        heights: &[8, 7],
-        quota: 2,
-    };
+    let start = Start((1, 2), &[8, 7], 2);
     let calls = [
         (DropAt(0, 1), Number(0)),
         (SplitRows(0, 1), Done),
         (Sweep(0), Number(2)),
         (Join(0, 1), Done),
     ];
-    let left = Left {
-        history: &[1],
-        heights: &[2, 2],
-        odometer: &[2, 2],
-        lost: 12,
-    };
+    let left = Left(&[1], &[2, 2], &[2, 2], 12);
     assert!(rt; both_leave(rt.alloc(), start, &calls, left));
 }

@@ -1,19 +1,17 @@
 //! How often a gate is called.
 
 use crate::setup::run_on_a_site;
-use sand_lab::{Gate, Role, Wish};
-use sand_testing::runs::QUIET;
+use sand_lab::{Gate, Role};
+use sand_testing::wish;
 use std::sync::atomic::Ordering::SeqCst;
 use std::sync::atomic::{AtomicBool, AtomicU32};
 use std::test::Fail;
 
-// Counts the calls of two threads per role, each with a fixed number of turns per epoch.
+// Counts the calls of two droppers, two workers and two observers, each with a fixed number of turns per epoch.
 #[derive(Drop)]
 struct Count {
     holds: bool,
-    droppers: Calls,
-    workers: Calls,
-    observers: Calls,
+    calls: [Calls; 3],
 }
 
 // The calls of two threads that take `turns` turns per epoch.
@@ -52,20 +50,28 @@ impl Calls {
 }
 
 impl Count {
+    fn new(holds: bool, droppers: u32, workers: u32, observers: u32) -> Count {
+        let calls = [
+            Calls::new(droppers),
+            Calls::new(workers),
+            Calls::new(observers),
+        ];
+        Count { holds, calls }
+    }
+
     // Whether every thread took all turns of `epochs` epochs, in order.
     fn are_all(&self, epochs: u32) -> bool {
-        [&self.droppers, &self.workers, &self.observers]
-            .iter()
-            .all(|calls| calls.are_all(epochs))
+        self.calls.iter().all(|calls| calls.are_all(epochs))
     }
 }
 
 impl Gate for Count {
     fn turn(&self, role: Role, who: u32, turn: u32) {
+        let [droppers, workers, observers] = &self.calls;
         match role {
-            Role::Dropper => self.droppers.count(who, turn),
-            Role::Worker => self.workers.count(who, turn),
-            Role::Observer => self.observers.count(who, turn),
+            Role::Dropper => droppers.count(who, turn),
+            Role::Worker => workers.count(who, turn),
+            Role::Observer => observers.count(who, turn),
         }
     }
 
@@ -77,21 +83,8 @@ impl Gate for Count {
 // Rounds of sweeps follow each epoch's turns, without calling the gate.
 #[test]
 fn a_gate_is_called_before_each_turn(rt: HostRuntime) -> Result<(), Fail> {
-    let wish = Wish {
-        droppers: 2,
-        drops: 5,
-        epochs: 3,
-        workers: 2,
-        sweeps: 4,
-        observers: 2,
-        ..QUIET
-    };
-    let gate = Count {
-        holds: true,
-        droppers: Calls::new(5),
-        workers: Calls::new(4),
-        observers: Calls::new(16),
-    };
+    let wish = wish!(droppers: 2, drops: 5, epochs: 3, workers: 2, sweeps: 4, observers: 2);
+    let gate = Count::new(true, 5, 4, 16);
     run_on_a_site(&rt, rt.alloc(), 0, wish, &gate)?;
     assert!(rt; gate.are_all(3));
     Ok(())
@@ -101,20 +94,10 @@ fn a_gate_is_called_before_each_turn(rt: HostRuntime) -> Result<(), Fail> {
 #[test]
 fn a_gate_is_called_before_each_drop_of_a_batch(rt: HostRuntime) -> Result<(), Fail> {
     for drops in [17, 33, 100] {
-        let wish = Wish {
-            droppers: 2,
-            drops,
-            epochs: 2,
-            ..QUIET
-        };
-        let gate = Count {
-            holds: false,
-            droppers: Calls::new(drops),
-            workers: Calls::new(0),
-            observers: Calls::new(0),
-        };
+        let wish = wish!(droppers: 2, drops: drops, epochs: 2);
+        let gate = Count::new(false, drops, 0, 0);
         run_on_a_site(&rt, rt.alloc(), 0, wish, &gate)?;
-        assert!(rt; gate.are_all(2));
+        assert!(rt; gate.are_all(2), "{drops} drops");
     }
     Ok(())
 }

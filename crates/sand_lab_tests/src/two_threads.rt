@@ -20,23 +20,14 @@ fn numbers_rise(pile: &PileWithPasses, pass: usize) -> bool {
 // The pile with its passes joined, if its four drops have the numbers 0 to 3.
 fn numbered_once(alloc: Global, pile: PileWithPasses) -> Option<PileWithPasses> {
     let pile = pile.play(alloc, &[(Join(0, 1), Done)])?;
-    let once = (0..4).all(|number| pile.receipts_with(0, number) == 1);
+    let once = (0..4).all(|number| pile.receipts_with(0, number) == Some(1));
     once.then_some(pile)
 }
 
 #[test]
 fn two_threads_drop_on_one_site(rt: HostRuntime) {
-    let start = Start {
-        sides: (1, 1),
-        heights: &[0],
-        quota: 4,
-    };
-    let left = Left {
-        history: &[0, 0, 0, 0],
-        heights: &[0],
-        odometer: &[1],
-        lost: 4,
-    };
+    let start = Start((1, 1), &[0], 4);
+    let left = Left(&[0, 0, 0, 0], &[0], &[1], 4);
     let split = [(Split(0, 2), Done)];
     let pile = PileWithPasses::played(rt.alloc(), start, &split).expect(&rt, "two passes");
     let (pile, _) = pile
@@ -50,23 +41,14 @@ fn two_threads_drop_on_one_site(rt: HostRuntime) {
 
 // Whether the history of two threads that drop on two sites has the order of their numbers.
 fn drop_on_two_sites<R: Threads + Sync>(rt: &R, alloc: Global, ending: Ending) -> Option<bool> {
-    let start = Start {
-        sides: (2, 1),
-        heights: &[3, 3],
-        quota: 2,
-    };
+    let start = Start((2, 1), &[3, 3], 2);
     let pile = PileWithPasses::played(alloc, start, &[(Split(0, 1), Done)])?;
     let (pile, _) = pile.both_at_once(rt, Some(0), Some(1))?;
     let history = match pile.number(0, 0) {
         Some(0) => [0, 1],
         _ => [1, 0],
     };
-    let left = Left {
-        history: &history,
-        heights: &[1, 1],
-        odometer: &[1, 1],
-        lost: 6,
-    };
+    let left = Left(&history, &[1, 1], &[1, 1], 6);
     let pile = pile.play(alloc, &[(Join(0, 1), Done)])?;
     Some(pile.leaves(alloc, ending, left))
 }
@@ -80,17 +62,13 @@ fn two_threads_drop_on_two_sites(rt: HostRuntime) {
 
 // Whether two threads that sweep after a drop in the middle have the same result as one.
 fn sweep_at_once<R: Threads + Sync>(rt: &R, alloc: Global, ending: Ending) -> Option<bool> {
-    let start = Start {
-        sides: (3, 3),
-        heights: &[3, 3, 3, 3, 3, 3, 3, 3, 3],
-        quota: 1,
-    };
-    let left = Left {
-        history: &[4],
-        heights: &[1, 3, 1, 3, 0, 3, 1, 3, 1],
-        odometer: &[1, 1, 1, 1, 2, 1, 1, 1, 1],
-        lost: 12,
-    };
+    let start = Start((3, 3), &[3, 3, 3, 3, 3, 3, 3, 3, 3], 1);
+    let left = Left(
+        &[4],
+        &[1, 3, 1, 3, 0, 3, 1, 3, 1],
+        &[1, 1, 1, 1, 2, 1, 1, 1, 1],
+        12,
+    );
     let calls = [(DropAt(0, 4), Number(0)), (SplitRows(0, 2), Done)];
     let pile = PileWithPasses::played(alloc, start, &calls)?;
     let (pile, _) = pile.both_at_once(rt, None, None)?;

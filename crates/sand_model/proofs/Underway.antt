@@ -4,7 +4,7 @@ use Rattle.std.proofs.lemmas.Bool.Decides.{nat_tests}
 use Rattle.sand_model.specs.Grid.{Grid, sites}
 use Rattle.sand_model.specs.Sand.{one_at, IsToppled, IsUnderway, IsSettled}
 use Rattle.sand_model.specs.Underway.{Advances}
-use Rattle.sand_model.proofs.Flow.{flow_same, flow_none, flow-add, flow-scale}
+use Rattle.sand_model.proofs.Flow.{flow_same, flow_none, flow-add}
 use Rattle.sand_model.proofs.Sandpile.{least_action}
 
 pub underway_start : (g : Grid) (s u : ℕ → ℕ) → ((i : ℕ) → i < sites g → u i ≡ 0) → IsUnderway g s u s

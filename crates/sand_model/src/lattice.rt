@@ -85,7 +85,8 @@ impl Lattice {
         ensures places { result ≡ places self.now site }
         ensures sides { IsGrid self.now }
     {
-        self.shape.places(site, usize::from(self.columns[site]))
+        self.shape
+            .neighbours_in(usize::from(self.columns[site]), site)
     }
 
     /// Whether a site is in neither the first nor the last row or column, on a cylinder too. `inner_neighbours` finds

@@ -1,6 +1,6 @@
 //! The burning test and the group of recurrent piles.
 
-use crate::trying::{each_refused, outcome};
+use crate::trying::refused;
 use sand_group::{Burned, Recurrent, act, add, burn, equivalent_recurrent, identity, inverse};
 use sand_model::Shape;
 use sand_testing::piles::open_pile;
@@ -37,73 +37,35 @@ fn is_forbidden(burned: &Burned, set: &[usize]) -> bool {
 }
 
 #[test]
-fn burn_of_a_recurrent_pile_reports_out_of_memory(rt: HostRuntime) -> Result<(), Fail> {
+fn burn_reports_out_of_memory(rt: HostRuntime) -> Result<(), Fail> {
     let pile = open_pile(rt.alloc(), 3, 1, &[1, 0, 1])?;
-    each_refused(
-        &rt,
-        rt.alloc(),
-        "burn, where the pile is recurrent",
-        |alloc: Global| outcome!(burn(alloc, &pile), burned => is_order_of_three(&burned)),
-    )
-}
-
-#[test]
-fn burn_with_a_forbidden_set_reports_out_of_memory(rt: HostRuntime) -> Result<(), Fail> {
+    refused!(rt, "burn, where the pile is recurrent", alloc => burn(alloc, &pile), burned =>
+        is_order_of_three(&burned))?;
     let pile = open_pile(rt.alloc(), 3, 1, &[0, 0, 3])?;
-    each_refused(
-        &rt,
-        rt.alloc(),
-        "burn, where a set is forbidden",
-        |alloc: Global| outcome!(burn(alloc, &pile), burned => is_forbidden(&burned, &[0, 1])),
-    )
+    refused!(rt, "burn, where a set is forbidden", alloc => burn(alloc, &pile), burned =>
+        is_forbidden(&burned, &[0, 1]))
 }
 
 #[test]
-fn from_pile_reports_out_of_memory(rt: HostRuntime) -> Result<(), Fail> {
+fn recurrent_piles_report_out_of_memory(rt: HostRuntime) -> Result<(), Fail> {
     let pile = open_pile(rt.alloc(), 2, 1, &[3, 1])?;
-    each_refused(&rt, rt.alloc(), "Recurrent::from_pile", |alloc: Global| {
-        outcome!(Recurrent::from_pile(alloc, &pile), pile => has_heights(&pile, &[3, 1]))
-    })
-}
-
-#[test]
-fn add_reports_out_of_memory(rt: HostRuntime) -> Result<(), Fail> {
-    let first = recurrent(rt.alloc(), [3, 1])?;
-    let second = recurrent(rt.alloc(), [0, 2])?;
-    each_refused(&rt, rt.alloc(), "add", |alloc: Global| {
-        outcome!(add(alloc, &first, &second), sum => has_heights(&sum, &[3, 3]))
-    })
-}
-
-#[test]
-fn identity_reports_out_of_memory(rt: HostRuntime) -> Result<(), Fail> {
+    refused!(rt, "Recurrent::from_pile", alloc => Recurrent::from_pile(alloc, &pile), pile =>
+        has_heights(&pile, &[3, 1]))?;
+    let pile = open_pile(rt.alloc(), 3, 1, &[5, 0, 1])?;
+    refused!(rt, "equivalent_recurrent", alloc => equivalent_recurrent(alloc, &pile), pile =>
+        has_heights(&pile, &[1, 1, 1]))?;
     let shape = Shape::new(3, 3)?;
-    each_refused(&rt, rt.alloc(), "identity", |alloc: Global| {
-        outcome!(identity(alloc, shape), pile => has_heights(&pile, &[2, 1, 2, 1, 0, 1, 2, 1, 2]))
-    })
+    refused!(rt, "identity", alloc => identity(alloc, shape), pile =>
+        has_heights(&pile, &[2, 1, 2, 1, 0, 1, 2, 1, 2]))
 }
 
 #[test]
-fn inverse_reports_out_of_memory(rt: HostRuntime) -> Result<(), Fail> {
+fn operations_report_out_of_memory(rt: HostRuntime) -> Result<(), Fail> {
     let pile = recurrent(rt.alloc(), [3, 1])?;
-    each_refused(&rt, rt.alloc(), "inverse", |alloc: Global| {
-        outcome!(inverse(alloc, &pile), pile => has_heights(&pile, &[0, 2]))
-    })
-}
-
-#[test]
-fn act_reports_out_of_memory(rt: HostRuntime) -> Result<(), Fail> {
+    let other = recurrent(rt.alloc(), [0, 2])?;
+    refused!(rt, "add", alloc => add(alloc, &pile, &other), sum => has_heights(&sum, &[3, 3]))?;
+    refused!(rt, "inverse", alloc => inverse(alloc, &pile), pile => has_heights(&pile, &[0, 2]))?;
     let pile = recurrent(rt.alloc(), [3, 3])?;
     assert!(rt; pile.pile().shape().sites() > 0);
-    each_refused(&rt, rt.alloc(), "act", |alloc: Global| {
-        outcome!(act(alloc, &pile, 0), pile => has_heights(&pile, &[1, 0]))
-    })
-}
-
-#[test]
-fn equivalent_recurrent_reports_out_of_memory(rt: HostRuntime) -> Result<(), Fail> {
-    let pile = open_pile(rt.alloc(), 3, 1, &[5, 0, 1])?;
-    each_refused(&rt, rt.alloc(), "equivalent_recurrent", |alloc: Global| {
-        outcome!(equivalent_recurrent(alloc, &pile), pile => has_heights(&pile, &[1, 1, 1]))
-    })
+    refused!(rt, "act", alloc => act(alloc, &pile, 0), pile => has_heights(&pile, &[1, 0]))
 }

@@ -2,8 +2,7 @@
 
 use crate::memory::was_refused;
 use crate::piles::full;
-use crate::trying::{MEMORY, Spares, each_refused, each_refused_on, outcome};
-use sand_model::Shape;
+use crate::trying::{MEMORY, Spares, each_refused, each_refused_on, refused};
 use sand_shared::{Pass, SharedPile, SiteCounts};
 use sand_testing::pile_with_passes::Call::{
     Counts, DropRest, IntoBare, Join, JoinAll, JoinBare, Rows, Split, SplitRows, Sweep, Toppled,
@@ -20,19 +19,10 @@ fn is_first(pass: &Pass) -> bool {
 }
 
 #[test]
-fn new_shared_pile_reports_out_of_memory(rt: HostRuntime) -> Result<(), Fail> {
+fn new_shared_piles_report_out_of_memory(rt: HostRuntime) -> Result<(), Fail> {
     let start = full(rt.alloc())?;
-    each_refused(
-        &rt,
-        rt.alloc(),
-        "SharedPile::new",
-        |alloc: Global| outcome!(SharedPile::new(alloc, &start, 7), made => is_first(&made.1)),
-    )
-}
-
-#[test]
-fn new_site_counts_report_out_of_memory(rt: HostRuntime) -> Result<(), Fail> {
-    let shape = Shape::new(3, 3)?;
+    refused!(rt, "SharedPile::new", alloc => SharedPile::new(alloc, &start, 7), made => is_first(&made.1))?;
+    let shape = start.shape();
     each_refused(&rt, rt.alloc(), "SiteCounts::new", |alloc: Global| {
         match SiteCounts::new(alloc, shape) {
             Ok(_) => Ok(true),
@@ -58,11 +48,7 @@ struct Trial {
 // Three by three sites of three grains, and a quota of five.
 const SPLIT: Trial = Trial {
     name: "SharedPile::split",
-    start: Start {
-        sides: (3, 3),
-        heights: &[3; 9],
-        quota: 5,
-    },
+    start: Start((3, 3), &[3; 9], 5),
     before: &[],
     unchanged: &[(Counts(0), Has(5, 0, 0)), (Rows(0), Between(0, 3))],
     call: Some(Split(0, 2)),
@@ -74,12 +60,7 @@ const SPLIT: Trial = Trial {
         (Join(0, 1), Done),
     ],
     ending: Ending::Close,
-    left: Left {
-        history: &[],
-        heights: &[3; 9],
-        odometer: &[0; 9],
-        lost: 0,
-    },
+    left: Left(&[], &[3; 9], &[0; 9], 0),
 };
 
 // The last two of three rows are split off.
@@ -96,16 +77,10 @@ const SPLIT_ROWS: Trial = Trial {
     ..SPLIT
 };
 
-const ONE_SITE: Start<'static> = Start {
-    sides: (1, 1),
-    heights: &[0],
-    quota: 4,
-};
-
 // A pass of quota 2 that has dropped twice is joined to a child of quota 2, which has to grow for its receipts.
 const JOIN: Trial = Trial {
     name: "SharedPile::join",
-    start: ONE_SITE,
+    start: Start((1, 1), &[0], 4),
     before: &[
         (Split(0, 2), Done),
         (DropRest(0, 0), Done),
@@ -115,22 +90,14 @@ const JOIN: Trial = Trial {
     call: Some(Join(1, 0)),
     after: &[],
     ending: Ending::Close,
-    left: Left {
-        history: &[0; 4],
-        heights: &[0],
-        odometer: &[1],
-        lost: 4,
-    },
+    left: Left(&[0; 4], &[0], &[1], 4),
 };
 
 // A child of quota 1 takes in the pass, which has dropped twelve times, and another child. It has to grow for the
 // receipts of each.
 const JOIN_ALL: Trial = Trial {
     name: "SharedPile::join_all",
-    start: Start {
-        quota: 14,
-        ..ONE_SITE
-    },
+    start: Start((1, 1), &[0], 14),
     before: &[
         (Split(0, 1), Done),
         (Split(0, 1), Done),
@@ -140,23 +107,14 @@ const JOIN_ALL: Trial = Trial {
     ],
     unchanged: &[],
     call: Some(JoinAll(1)),
-    left: Left {
-        history: &[0; 14],
-        heights: &[2],
-        odometer: &[3],
-        lost: 12,
-    },
+    left: Left(&[0; 14], &[2], &[3], 12),
     ..JOIN
 };
 
 // Three rows of one site: the pass of the second takes in that of the third, and has to grow for its count.
 const JOIN_BARE: Trial = Trial {
     name: "SharedPile::join_bare",
-    start: Start {
-        sides: (1, 3),
-        heights: &[1; 3],
-        quota: 0,
-    },
+    start: Start((1, 3), &[1; 3], 0),
     before: &[
         (SplitRows(0, 1), Done),
         (SplitRows(0, 1), Done),
@@ -168,37 +126,19 @@ const JOIN_BARE: Trial = Trial {
     call: Some(JoinBare),
     after: &[(JoinBare, Done)],
     ending: Ending::SettleRest,
-    left: Left {
-        history: &[],
-        heights: &[1; 3],
-        odometer: &[0; 3],
-        lost: 0,
-    },
-};
-
-const TWO_SITES: Start<'static> = Start {
-    sides: (2, 1),
-    heights: &[4, 4],
-    quota: 0,
-};
-
-const SETTLED: Left<'static> = Left {
-    history: &[],
-    heights: &[1, 1],
-    odometer: &[1, 1],
-    lost: 6,
+    left: Left(&[], &[1; 3], &[0; 3], 0),
 };
 
 // Two sites that topple once each.
 const CLOSE: Trial = Trial {
     name: "SharedPile::close",
-    start: TWO_SITES,
+    start: Start((2, 1), &[4, 4], 0),
     before: &[],
     unchanged: &[(Toppled(0, 0), Number(0)), (Toppled(0, 1), Number(0))],
     call: None,
     after: &[],
     ending: Ending::Close,
-    left: SETTLED,
+    left: Left(&[], &[1, 1], &[1, 1], 6),
 };
 
 // Topplings in place stay counted.
@@ -212,28 +152,18 @@ const CLOSE_SWEPT: Trial = Trial {
 // What the second site gives to the first topples when the pile is settled.
 const SETTLE_SWEPT: Trial = Trial {
     name: "SharedPile::settle, after a sweep",
-    start: Start {
-        heights: &[3, 4],
-        ..TWO_SITES
-    },
+    start: Start((2, 1), &[3, 4], 0),
     before: &[(Sweep(0), Number(1))],
     unchanged: &[(Toppled(0, 0), Number(0)), (Toppled(0, 1), Number(1))],
     ending: Ending::Settle,
-    left: Left {
-        heights: &[0, 1],
-        ..SETTLED
-    },
+    left: Left(&[], &[0, 1], &[1, 1], 6),
     ..CLOSE
 };
 
 // The second site topples in place, and so the first one in plain memory.
 const RECORD_NOW: Trial = Trial {
     name: "SharedPile::record_now",
-    start: Start {
-        heights: &[3, 3],
-        quota: 1,
-        ..TWO_SITES
-    },
+    start: Start((2, 1), &[3, 3], 1),
     before: &[(DropRest(0, 1), Done), (Sweep(0), Number(1))],
     unchanged: &[
         (Counts(0), Has(0, 1, 1)),
@@ -241,29 +171,18 @@ const RECORD_NOW: Trial = Trial {
         (Toppled(0, 1), Number(1)),
     ],
     ending: Ending::RecordNow,
-    left: Left {
-        history: &[1],
-        heights: &[0, 1],
-        ..SETTLED
-    },
+    left: Left(&[1], &[0, 1], &[1, 1], 6),
     ..CLOSE
 };
 
 // Two sites of seven grains.
 const SETTLE_REST: Trial = Trial {
     name: "SharedPile::settle_rest",
-    start: Start {
-        heights: &[7, 7],
-        ..TWO_SITES
-    },
+    start: Start((2, 1), &[7, 7], 0),
     before: &[(IntoBare(0), Done)],
     unchanged: &[],
     ending: Ending::SettleRest,
-    left: Left {
-        odometer: &[2, 2],
-        lost: 12,
-        ..SETTLED
-    },
+    left: Left(&[], &[1, 1], &[2, 2], 12),
     ..CLOSE
 };
 

@@ -1,6 +1,6 @@
 //! Piles are made, copied and added.
 
-use crate::trying::{each_refused, outcome};
+use crate::trying::refused;
 use sand_model::{Pile, Shape};
 use sand_testing::piles::open_pile;
 use std::alloc::Global;
@@ -12,27 +12,14 @@ pub fn full(alloc: Global) -> Result<Pile, Fail> {
 }
 
 #[test]
-fn new_pile_reports_out_of_memory(rt: HostRuntime) -> Result<(), Fail> {
+fn piles_report_out_of_memory(rt: HostRuntime) -> Result<(), Fail> {
     let shape = Shape::new(3, 1)?;
-    each_refused(&rt, rt.alloc(), "Pile::new", |alloc: Global| {
-        outcome!(Pile::new(alloc, shape, &[0, 4, 0]), pile => pile.heights() == [0, 4, 0].as_slice())
-    })
-}
-
-#[test]
-fn copy_of_a_pile_reports_out_of_memory(rt: HostRuntime) -> Result<(), Fail> {
+    refused!(rt, "Pile::new", alloc => Pile::new(alloc, shape, &[0, 4, 0]), pile =>
+        pile.heights() == [0, 4, 0].as_slice())?;
     let pile = full(rt.alloc())?;
-    each_refused(&rt, rt.alloc(), "Pile::copy", |alloc: Global| {
-        outcome!(pile.copy(alloc), copy => copy.heights() == [3; 9].as_slice())
-    })
-}
-
-#[test]
-fn sum_of_two_piles_reports_out_of_memory(rt: HostRuntime) -> Result<(), Fail> {
+    refused!(rt, "Pile::copy", alloc => pile.copy(alloc), copy => copy.heights() == [3; 9].as_slice())?;
     let pile = open_pile(rt.alloc(), 2, 1, &[4, 0])?;
     let other = open_pile(rt.alloc(), 2, 1, &[1, 3])?;
     assert!(rt; pile.shape() == other.shape());
-    each_refused(&rt, rt.alloc(), "Pile::plus", |alloc: Global| {
-        outcome!(pile.plus(alloc, &other), sum => sum.heights() == [5, 3].as_slice())
-    })
+    refused!(rt, "Pile::plus", alloc => pile.plus(alloc, &other), sum => sum.heights() == [5, 3].as_slice())
 }

@@ -22,8 +22,9 @@ use sand_testing::pile_with_passes::Returned::{Between, Done, Fault, Has, Is, Nu
 use sand_testing::pile_with_passes::{PileWithPasses, Start, is_there};
 use sand_testing::piles::{one_site, open_pile};
 use sand_testing::records::{is_record, is_settled};
-use sand_testing::runs::{QUIET, run_into};
+use sand_testing::runs::run_into;
 use sand_testing::shared::{bare_of, dropped_on_a_site};
+use sand_testing::wish;
 use std::alloc::{AllocError, Global};
 use std::test::Fail;
 
@@ -161,11 +162,7 @@ fn recurrent_piles_take_no_memory(rt: HostRuntime) -> Result<(), Fail> {
 #[test]
 fn passes_take_no_memory(rt: HostRuntime) -> Result<(), Fail> {
     let alloc = rt.alloc();
-    let start = Start {
-        sides: (1, 2),
-        heights: &[4, 4],
-        quota: 3,
-    };
+    let start = Start((1, 2), &[4, 4], 3);
     let calls = [
         (IsWhole(0), Is(true)),
         (DropAt(0, 1), Number(0)),
@@ -236,12 +233,7 @@ fn records_take_no_memory(rt: HostRuntime) -> Result<(), Fail> {
 }
 
 // One epoch with a dropper, a worker and an observer.
-const ONE_EPOCH: Wish = Wish {
-    drops: 3,
-    sweeps: 1,
-    observers: 1,
-    ..QUIET
-};
+const ONE_EPOCH: Wish = wish!(drops: 3, sweeps: 1, observers: 1);
 
 // The epoch of the picture at an album's first place, seen with a new note, and the grains that its pile has lost.
 fn first_picture(album: &Album) -> Option<(u32, u64)>

@@ -1,7 +1,7 @@
 //! Records: copied, shared, and extended by the next one.
 
 use crate::memory::{refuse, was_refused};
-use crate::trying::{MEMORY, Spares, each_refused, each_refused_on, outcome};
+use crate::trying::{MEMORY, each_refused, refused};
 use sand_shared::Record;
 use sand_testing::records::{is_record, may_follow};
 use sand_testing::shared::{dropped_on, dropped_on_a_site};
@@ -35,19 +35,6 @@ fn is_four(record: &Record) -> bool {
     is_record(record, &[0; 4], &[0], &[1], 4)
 }
 
-#[test]
-fn copy_of_a_record_reports_out_of_memory(rt: HostRuntime) -> Result<(), Fail> {
-    let three = dropped_on_a_site(rt.alloc(), 0, 3)?;
-    let tried = each_refused(
-        &rt,
-        rt.alloc(),
-        "Record::copy",
-        |alloc: Global| outcome!(three.copy(alloc), copy => was_three(copy)),
-    );
-    drop(three);
-    tried
-}
-
 // A record of three drops, followed by one of one drop. Returns whether that is right, or the number of the fault.
 fn follow(alloc: Global, three: &Record, one: &Record) -> Result<bool, u32> {
     if !may_follow(three, one) {
@@ -64,8 +51,9 @@ fn follow(alloc: Global, three: &Record, one: &Record) -> Result<bool, u32> {
 }
 
 #[test]
-fn followed_by_reports_out_of_memory(rt: HostRuntime) -> Result<(), Fail> {
+fn new_records_report_out_of_memory(rt: HostRuntime) -> Result<(), Fail> {
     let (three, one) = three_and_one(rt.alloc())?;
+    refused!(rt, "Record::copy", alloc => three.copy(alloc), copy => was_three(copy))?;
     let tried = each_refused(
         &rt,
         rt.alloc(),
@@ -92,14 +80,8 @@ fn twice(alloc: Global, record: &mut Option<Record>) -> Result<bool, u32> {
 
 #[test]
 fn twice_reports_out_of_memory(rt: HostRuntime) -> Result<(), Fail> {
-    each_refused_on(
-        &rt,
-        rt.alloc(),
-        "Record::twice",
-        Spares::Nothing,
-        |alloc: Global| Ok(Some(dropped_on_a_site(alloc, 0, 3)?)),
-        twice,
-    )
+    let three = |alloc: Global| Ok(Some(dropped_on_a_site(alloc, 0, 3)?));
+    refused!(rt, "Record::twice", three, twice)
 }
 
 // Whether a record of three drops is copied in three allocations: two lists of heights and an odometer.
@@ -161,14 +143,7 @@ fn shared(alloc: Global) -> Result<Growing, Fail> {
 
 #[test]
 fn append_to_a_shared_history_reports_out_of_memory(rt: HostRuntime) -> Result<(), Fail> {
-    each_refused_on(
-        &rt,
-        rt.alloc(),
-        "Record::append",
-        Spares::Nothing,
-        shared,
-        append,
-    )
+    refused!(rt, "Record::append", shared, append)
 }
 
 // The record that is to grow has room for one more drop.

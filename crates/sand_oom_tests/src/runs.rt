@@ -6,13 +6,14 @@ ghost use Rattle.std.specs.Prelude.{◌≡◌};
 ghost use Rattle.sand_lab.specs.Albums.{IsPlace};
 
 use crate::memory::was_refused;
-use crate::trying::{Spares, each_refused, each_refused_on, outcome, print_refused};
+use crate::trying::{Spares, each_refused_on, print_refused, refused};
 use sand_desk::{journal_text, lab_text};
 use sand_lab::{Album, LabFault, Note, Open, Report, Wish, sites_of};
 use sand_model::{Pile, Shape};
 use sand_shared::Record;
 use sand_testing::piles::{one_site, open_pile};
-use sand_testing::runs::{QUIET, run_into};
+use sand_testing::runs::run_into;
+use sand_testing::wish;
 use std::alloc::Global;
 use std::process::Abort;
 use std::sync::atomic::AtomicU32;
@@ -23,12 +24,7 @@ use std::thread::Threads;
 // The record of a pile whose sites are all alike: the drops, the height of each site, how often each toppled, and the
 // grains lost.
 #[derive(Clone, Copy)]
-struct Uniform {
-    drops: usize,
-    height: u64,
-    toppled: u64,
-    lost: u64,
-}
+struct Uniform(usize, u64, u64, u64);
 
 // A run of two epochs on a square whose sites are all alike, and the result of each epoch and of both.
 #[derive(Clone, Copy)]
@@ -47,113 +43,37 @@ const TRIALS: [Trial; 3] = [
         name: "run",
         side: 1,
         start: &[0],
-        wish: Wish {
-            droppers: 2,
-            drops: 3,
-            epochs: 2,
-            ..QUIET
-        },
-        first: Uniform {
-            drops: 6,
-            height: 2,
-            toppled: 1,
-            lost: 4,
-        },
-        second: Uniform {
-            drops: 6,
-            height: 0,
-            toppled: 2,
-            lost: 8,
-        },
-        total: Uniform {
-            drops: 12,
-            height: 0,
-            toppled: 3,
-            lost: 12,
-        },
+        wish: wish!(droppers: 2, drops: 3, epochs: 2),
+        first: Uniform(6, 2, 1, 4),
+        second: Uniform(6, 0, 2, 8),
+        total: Uniform(12, 0, 3, 12),
     },
     Trial {
         name: "run, with workers and observers",
         side: 1,
         start: &[3],
-        wish: Wish {
-            seed: 7,
-            droppers: 3,
-            drops: 4,
-            epochs: 2,
-            workers: 2,
-            sweeps: 2,
-            observers: 2,
-        },
-        first: Uniform {
-            drops: 12,
-            height: 3,
-            toppled: 3,
-            lost: 12,
-        },
-        second: Uniform {
-            drops: 12,
-            height: 3,
-            toppled: 3,
-            lost: 12,
-        },
-        total: Uniform {
-            drops: 24,
-            height: 3,
-            toppled: 6,
-            lost: 24,
-        },
+        wish: wish!(seed: 7, droppers: 3, drops: 4, epochs: 2, workers: 2, sweeps: 2, observers: 2),
+        first: Uniform(12, 3, 3, 12),
+        second: Uniform(12, 3, 3, 12),
+        total: Uniform(24, 3, 6, 24),
     },
     Trial {
         name: "run, with a row for each worker",
         side: 2,
         start: &[4; 4],
-        wish: Wish {
-            epochs: 2,
-            workers: 2,
-            sweeps: 2,
-            ..QUIET
-        },
-        first: Uniform {
-            drops: 0,
-            height: 2,
-            toppled: 1,
-            lost: 8,
-        },
-        second: Uniform {
-            drops: 0,
-            height: 2,
-            toppled: 0,
-            lost: 0,
-        },
-        total: Uniform {
-            drops: 0,
-            height: 2,
-            toppled: 1,
-            lost: 8,
-        },
+        wish: wish!(epochs: 2, workers: 2, sweeps: 2),
+        first: Uniform(0, 2, 1, 8),
+        second: Uniform(0, 2, 0, 0),
+        total: Uniform(0, 2, 1, 8),
     },
 ];
 
 #[test]
-fn sites_of_reports_out_of_memory(rt: HostRuntime) -> Result<(), Fail> {
+fn streams_and_albums_report_out_of_memory(rt: HostRuntime) -> Result<(), Fail> {
     let shape = Shape::new(1, 1)?;
-    each_refused(
-        &rt,
-        rt.alloc(),
-        "sites_of",
-        |alloc: Global| outcome!(sites_of(alloc, shape, 7, 1, 40), sites => sites.as_slice() == [0; 40].as_slice()),
-    )
-}
-
-#[test]
-fn new_album_reports_out_of_memory(rt: HostRuntime) -> Result<(), Fail> {
-    each_refused(
-        &rt,
-        rt.alloc(),
-        "Album::new",
-        |alloc: Global| outcome!(Album::new(alloc, 5), album => album.places() == 5),
-    )
+    refused!(rt, "sites_of", alloc => sites_of(alloc, shape, 7, 1, 40), sites =>
+        sites.as_slice() == [0; 40].as_slice())?;
+    refused!(rt, "Album::new", alloc => Album::new(alloc, 5), album => album.places() == 5)
 }
 
 fn are_all(numbers: &[u64], number: u64) -> bool {
@@ -161,10 +81,10 @@ fn are_all(numbers: &[u64], number: u64) -> bool {
 }
 
 fn is_uniform(record: &Record, uniform: Uniform) -> bool {
-    record.history().len() == uniform.drops
-        && are_all(record.pile().heights(), uniform.height)
-        && are_all(record.odometers(), uniform.toppled)
-        && record.lost() == uniform.lost
+    let Uniform(drops, height, toppled, lost) = uniform;
+    (record.history().len(), record.lost()) == (drops, lost)
+        && are_all(record.pile().heights(), height)
+        && are_all(record.odometers(), toppled)
 }
 
 // Whether a report that is not needed any more is right.
@@ -189,7 +109,10 @@ fn run_once<R: Threads + Sync>(
     trial: &Trial,
     album: &Album,
 ) -> Result<bool, u32> {
-    outcome!(run_into(rt, alloc, start, trial.wish, &Open, album), report => was_report(report, trial))
+    match run_into(rt, alloc, start, trial.wish, &Open, album) {
+        Ok(report) => Ok(was_report(report, trial)),
+        Err(fault) => Err(fault.number()),
+    }
 }
 
 // The height of the first site in the picture at a place.
@@ -219,7 +142,7 @@ fn stays_published<R: Threads + Sync>(
     trial: &Trial,
     album: &Album,
 ) -> bool {
-    let first = (Some(trial.first.height), None);
+    let first = (Some(trial.first.1), None);
     heights_in(album) == first
         && run_once(rt, alloc, start, trial, album) == Err(17)
         && heights_in(album) == first
@@ -298,7 +221,7 @@ fn report_of<R: Threads + Sync>(rt: &R, alloc: Global) -> Result<Report, Fail> {
 
 fn report_on<R: Threads + Sync>(rt: &R, alloc: Global, start: &Pile) -> Result<Report, Fail> {
     let album = Album::new(alloc, 1)?;
-    let wish = Wish { drops: 2, ..QUIET };
+    let wish = wish!(drops: 2);
     let report = run_into(rt, alloc, start, wish, &Open, &album);
     drop(album);
     Ok(report?)
@@ -309,28 +232,11 @@ fn is_lab_text(text: &[u8]) -> bool {
 }
 
 #[test]
-fn lab_text_reports_out_of_memory(rt: HostRuntime) -> Result<(), Fail> {
+fn texts_of_a_run_report_out_of_memory(rt: HostRuntime) -> Result<(), Fail> {
     let report = report_of(&rt, rt.alloc())?;
-    let tried = each_refused(
-        &rt,
-        rt.alloc(),
-        "lab_text",
-        |alloc: Global| outcome!(lab_text(alloc, &report), text => is_lab_text(text.as_slice())),
-    );
-    drop(report);
-    tried
-}
-
-#[test]
-fn journal_text_reports_out_of_memory(rt: HostRuntime) -> Result<(), Fail> {
-    let report = report_of(&rt, rt.alloc())?;
-    let tried = each_refused(
-        &rt,
-        rt.alloc(),
-        "journal_text",
-        |alloc: Global| outcome!(journal_text(alloc, &report), text =>
-            text.as_slice() == b"journal\n0 0 0 0\n0 1 0 0\n".as_slice()),
-    );
+    refused!(rt, "lab_text", alloc => lab_text(alloc, &report), text => is_lab_text(text.as_slice()))?;
+    let tried = refused!(rt, "journal_text", alloc => journal_text(alloc, &report), text =>
+        text.as_slice() == b"journal\n0 0 0 0\n0 1 0 0\n".as_slice());
     drop(report);
     tried
 }

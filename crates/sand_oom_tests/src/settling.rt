@@ -1,26 +1,13 @@
 //! Settling, and the single-threaded pile.
 
 use crate::piles::full;
-use crate::trying::{Spares, each_refused, each_refused_on, outcome};
+use crate::trying::refused;
 use sand_model::Pile;
 use sand_settle::{Avalanche, OnePile, settle};
 use sand_testing::piles::open_pile;
 use sand_testing::records::is_settled;
 use std::alloc::Global;
 use std::test::Fail;
-
-#[test]
-fn settle_reports_out_of_memory(rt: HostRuntime) -> Result<(), Fail> {
-    let pile = open_pile(rt.alloc(), 2, 1, &[4, 4])?;
-    let tried = each_refused(
-        &rt,
-        rt.alloc(),
-        "settle",
-        |alloc: Global| outcome!(settle(alloc, &pile), settled => is_settled(&settled, &[1, 1], &[1, 1], 6)),
-    );
-    drop(pile);
-    tried
-}
 
 // A pile that is high in the middle, from a list that the proofs need not examine place by place.
 fn heap(alloc: Global) -> Result<Pile, Fail> {
@@ -29,38 +16,10 @@ fn heap(alloc: Global) -> Result<Pile, Fail> {
     open_pile(alloc, 16, 16, heights.as_slice())
 }
 
-// No grain is left over or missing.
-#[test]
-fn settle_by_a_guess_reports_out_of_memory(rt: HostRuntime) -> Result<(), Fail> {
-    let pile = heap(rt.alloc())?;
-    let tried = each_refused(
-        &rt,
-        rt.alloc(),
-        "settle, by a guess",
-        |alloc: Global| outcome!(settle(alloc, &pile), settled =>
-            settled.pile().grains().wrapping_add(settled.lost()) == 100_000),
-    );
-    drop(pile);
-    tried
-}
-
 fn is_one_pile(one: &OnePile, tally: u64, heights: &[u64], odometer: &[u64], lost: u64) -> bool {
     (one.tally(), one.lost()) == (tally, lost)
         && one.pile().heights() == heights
         && one.odometers() == odometer
-}
-
-#[test]
-fn new_one_pile_reports_out_of_memory(rt: HostRuntime) -> Result<(), Fail> {
-    let pile = open_pile(rt.alloc(), 2, 1, &[4, 4])?;
-    let tried = each_refused(
-        &rt,
-        rt.alloc(),
-        "OnePile::new",
-        |alloc: Global| outcome!(OnePile::new(alloc, &pile), one => is_of_the_two(one)),
-    );
-    drop(pile);
-    tried
 }
 
 // Whether two sites of four grains have settled.
@@ -77,8 +36,8 @@ pub fn is_after_the_drop(one: &OnePile) -> bool {
     is_one_pile(one, 1, &heights, &odometer, 12) && one.topplings() == 10
 }
 
-// The drop in the middle of nine sites of three grains each.
-const MIDDLE: Avalanche = Avalanche {
+/// The drop in the middle of nine sites of three grains each.
+pub const MIDDLE: Avalanche = Avalanche {
     site: 4,
     size: 10,
     area: 9,
@@ -109,13 +68,22 @@ fn drop_in_the_middle(alloc: Global, one: &mut OnePile) -> Result<bool, u32> {
 }
 
 #[test]
+fn settling_reports_out_of_memory(rt: HostRuntime) -> Result<(), Fail> {
+    let pile = open_pile(rt.alloc(), 2, 1, &[4, 4])?;
+    refused!(rt, "settle", alloc => settle(alloc, &pile), settled => is_settled(&settled, &[1, 1], &[1, 1], 6))?;
+    refused!(rt, "OnePile::new", alloc => OnePile::new(alloc, &pile), one => is_of_the_two(one))?;
+    // No grain is left over or missing.
+    let pile = heap(rt.alloc())?;
+    refused!(rt, "settle, by a guess", alloc => settle(alloc, &pile), settled =>
+        settled.pile().grains().wrapping_add(settled.lost()) == 100_000)
+}
+
+#[test]
 fn drop_at_reports_out_of_memory(rt: HostRuntime) -> Result<(), Fail> {
-    each_refused_on(
-        &rt,
-        rt.alloc(),
+    refused!(
+        rt,
         "OnePile::drop_at",
-        Spares::Nothing,
         full_of_one_thread,
-        drop_in_the_middle,
+        drop_in_the_middle
     )
 }

@@ -11,17 +11,21 @@ const MOST_REQUESTS: u32 = 100_000;
 /// The number of the fault out of memory.
 pub const MEMORY: u32 = 4;
 
-/// The outcome of a call: whether its value is right, or the number of its fault.
-macro_rules! outcome {
-    ($call:expr, $value:ident => $is_right:expr) => {
-        match $call {
+/// `refused!(rt, NAME, alloc => CALL, value => IS_RIGHT)` is `each_refused` for a call that returns a value or a fault.
+/// `refused!(rt, NAME, NEW_VALUE, CALL)` is `each_refused_on` for a call that can do without nothing.
+macro_rules! refused {
+    ($rt:ident, $name:literal, $alloc:ident => $call:expr, $value:ident => $is_right:expr) => {
+        $crate::trying::each_refused(&$rt, $rt.alloc(), $name, |$alloc: std::alloc::Global| match $call {
             Ok($value) => Ok($is_right),
             Err(fault) => Err(fault.number()),
-        }
+        })
+    };
+    ($rt:ident, $name:literal, $new_value:expr, $call:expr) => {
+        $crate::trying::each_refused_on(&$rt, $rt.alloc(), $name, $crate::trying::Spares::Nothing, $new_value, $call)
     };
 }
 
-pub(crate) use outcome;
+pub(crate) use refused;
 
 /// What a call may do without if its allocation is refused.
 #[derive(Clone, Copy, Debug, PartialEq, Eq)]

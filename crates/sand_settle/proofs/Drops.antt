@@ -1,5 +1,5 @@
 -- One more drop on a settled pile, and the result of a list of drops.
-use Rattle.std.proofs.Common.{ℕ, ◌≡◌, ◌+◌, ◌-◌, ◌*◌, ◌<◌, ◌≤◌, ◌^◌, refl, sym, ◌∙◌, ap, subst, arith, List, [], ◌∷◌, ◌++◌, length, sum, get_or, append_assoc, Option, Some}
+use Rattle.std.proofs.Common.{ℕ, ◌≡◌, ◌+◌, ◌-◌, ◌*◌, ◌<◌, ◌≤◌, ◌^◌, refl, sym, ◌∙◌, ap, subst, arith, List, [], ◌∷◌, ◌++◌, length, sum, get_or, append_assoc}
 use Rattle.std.proofs.lemmas.List.{length-append, append-nil}
 use Rattle.std.proofs.lemmas.List.Elements.{All-push}
 use Rattle.sand_model.specs.Grid.{Grid, sites, missing}
@@ -10,9 +10,8 @@ use Rattle.sand_model.proofs.Occurrences.{occurrences-push}
 use Rattle.sand_model.proofs.Sandpile.{laplacian_sum, weight_after, settled_in_parts, settled_same, settled_stable}
 use Rattle.sand_model.proofs.Heights.{sum_is_grains}
 use Rattle.sand_model.proofs.Bounds.{weight_bound, at_most_sum_below}
-use Rattle.sand_fronts.specs.TiledPiles.{TiledView}
 use Rattle.sand_settle.specs.Settling.{SettledView, IsSettledRecord, IsSomeSettledRecord, odometer_of}
-use Rattle.sand_settle.specs.Drops.{OneView, IsAfter, topplings_between, TakesGrain, Drops, DropsAll, IsPaid, one_view, IsOnTiles, IsOnePile}
+use Rattle.sand_settle.specs.Drops.{OneView, IsAfter, topplings_between, TakesGrain, Drops, DropsAll, IsPaid, one_view, IsOnePile}
 use Rattle.sand_settle.specs.Avalanches.{Avalanche, IsAvalanche}
 use Rattle.sand_settle.proofs.OneRecord.{record_by_site, some_record}
 use Rattle.sand_settle.proofs.Underway.{topplings_at}
@@ -229,15 +228,13 @@ few_so_far {r} u paid same j inside =
 
 -- ---- the pile of one thread after a drop
 
-pub kept_after : {w : Option TiledView} {number site : ℕ} {r q : SettledView} {t : TiledView}
-    → IsOnePile r w number → site < sites r.pile.grid
+pub kept_after : {number site : ℕ} {r q : SettledView}
+    → IsOnePile r number → site < sites r.pile.grid
     → sum r.pile.heights + r.lost < most_grains → TakesGrain r site q
-    → IsOnTiles q.pile t → IsOnePile q (Some t) (number + 1)
-kept_after before inside room taken tiled = record {
+    → IsOnePile q (number + 1)
+kept_after before inside room taken = record {
   paid = paid_after before.paid inside room taken;
   bound = omega (arith, before.bound, grains_after before.paid inside taken);
-  tiled = tiled;
-  kept = λ _. refl;
 }
 
 pub drops_from : (number : ℕ) {site : ℕ} {r q : SettledView} {v : OneView}

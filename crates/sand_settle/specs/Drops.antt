@@ -1,6 +1,6 @@
 -- What contracts see of the pile of one thread, and what makes it the settled record of its start and its drops.
 -- Source: chip-firing; settling in two parts is settling at once, so drops may settle one after another (Dhar 1990).
-use Rattle.std.specs.Prelude.{ℕ, Option, IsSome, IfSome, ◌≡◌, ◌+◌, ◌-◌, ◌*◌, ◌<◌, ◌≤◌, List, [], ◌∷◌, All, length, sum, slice_index}
+use Rattle.std.specs.Prelude.{ℕ, ◌≡◌, ◌+◌, ◌-◌, ◌*◌, ◌<◌, ◌≤◌, List, [], ◌∷◌, All, length, sum, slice_index}
 use Rattle.sand_model.specs.Grid.{Grid, IsGrid, sites}
 use Rattle.sand_model.specs.Sand.{IsStable, IsSettled, one_at, occurrences, topplings, lost, weight}
 use Rattle.sand_model.specs.Piles.{PileView, IsPile, height_of, most_grains}
@@ -73,9 +73,7 @@ pub record IsOnTiles (p : PileView) (t : TiledView) : Type 0 where
   pub heights : t.heights ≡ p.heights
   pub uncounted : (j : ℕ) → slice_index t.times j ≡ 0
 
--- the record is right, and each drop added a grain; the tiles, which exist from the first drop on, have its heights
-pub record IsOnePile (r : SettledView) (tiles : Option TiledView) (number : ℕ) : Type 0 where
+-- the record is right, and each drop added a grain
+pub record IsOnePile (r : SettledView) (number : ℕ) : Type 0 where
   pub paid : IsPaid r
   pub bound : number ≤ sum r.pile.heights + r.lost
-  pub tiled : IfSome tiles (IsOnTiles r.pile)
-  pub kept : 0 < number → IsSome tiles

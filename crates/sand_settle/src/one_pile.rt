@@ -29,28 +29,34 @@ use std::marker::Model;
 #[derive(Drop)]
 pub struct OnePile {
     settled: Settled,
-    // The same heights on tiles, where sand topples. Allocated at the first drop.
-    tiled: Option<TiledPile>,
+    // The same heights on tiles, where sand topples. Allocated at the first drop, in a block of their own: so they stay in
+    // place while a drop takes the record out.
+    tiled: Option<Box<TiledPile>>,
     number: u64,
 }
 
 impl Model for OnePile {
-    ghost use Rattle.sand_settle.specs.Drops.{OneView, one_view, IsOnePile};
+    ghost use Rattle.std.specs.Prelude.{◌<◌, IfSome, IsSome};
+    ghost use Rattle.sand_settle.specs.Drops.{OneView, one_view, IsOnePile, IsOnTiles};
 
     ghost Value = { OneView };
 
     ghost view = { λ p. one_view p.settled p.number };
 
-    ghost invariant = { λ p. IsOnePile p.settled p.tiled p.number };
+    ghost invariant = { λ p. IsOnePile p.settled p.number
+        × IfSome p.tiled (λ b. IsOnTiles p.settled.pile b.value) × (0 < p.number → IsSome p.tiled) };
 }
 
 // Drops a grain at a site of a settled pile and of its tiles, and adds the topplings to the record.
-fn drop_grain(settled: Settled, drop: (TiledPile, usize)) -> (Settled, (TiledPile, Avalanche))
+fn drop_grain(
+    settled: Settled,
+    drop: (Box<TiledPile>, usize),
+) -> (Settled, (Box<TiledPile>, Avalanche))
     requires site { drop.1 < sites settled.pile.grid }
-    requires tiled { IsOnTiles settled.pile drop.0 }
+    requires tiled { IsOnTiles settled.pile drop.0.value }
     requires paid { IsPaid settled }
     requires limit { sum settled.pile.heights + settled.lost < most_grains }
-    ensures tiled { IsOnTiles result.0.pile result.1.0 }
+    ensures tiled { IsOnTiles result.0.pile result.1.0.value }
     ensures taken { TakesGrain settled drop.1 result.0 }
     ensures avalanche { IsAvalanche settled.pile.grid drop.1 (topplings_between settled result.0) result.1.1 }
 {
@@ -73,28 +79,31 @@ fn drop_grain(settled: Settled, drop: (TiledPile, usize)) -> (Settled, (TiledPil
     (record, (tiled, avalanche))
 }
 
-fn new_tiles(alloc: Global, pile: &Pile) -> Result<TiledPile, OneFault>
+fn new_tiles(alloc: Global, pile: &Pile) -> Result<Box<TiledPile>, OneFault>
     requires low { IsStable pile.now.grid (height_of pile.now) }
     requires each { length pile.now.heights ≡ sites pile.now.grid }
-    ensures tiled { IfOk result (IsOnTiles pile.now) }
+    ensures tiled { IfOk result (λ b. IsOnTiles pile.now b.value) }
     ensures memory { IsOkUnless result (OneFault.Memory alloc_error) }
 {
     let Ok(tiled) = TiledPile::new(alloc, pile.shape(), pile.heights()) else {
         return Err(OneFault::Memory(AllocError));
     };
-    Ok(tiled)
+    match Box::new(alloc, tiled) {
+        Ok(tiled) => Ok(tiled),
+        Err(_) => Err(OneFault::Memory(AllocError)),
+    }
 }
 
 // The tiles of the last drop, or new ones.
 fn take_tiles(
     alloc: Global,
     pile: &Pile,
-    kept: &mut Option<TiledPile>,
-) -> Result<TiledPile, OneFault>
+    kept: &mut Option<Box<TiledPile>>,
+) -> Result<Box<TiledPile>, OneFault>
     requires low { IsStable pile.now.grid (height_of pile.now) }
     requires each { length pile.now.heights ≡ sites pile.now.grid }
-    requires tiled { IfSome kept.old (IsOnTiles pile.now) }
-    ensures tiled { IfOk result (IsOnTiles pile.now) }
+    requires tiled { IfSome kept.old (λ b. IsOnTiles pile.now b.value) }
+    ensures tiled { IfOk result (λ b. IsOnTiles pile.now b.value) }
     ensures kept { IsSome kept.old → IsOk result }
     ensures memory { IsOkUnless result (OneFault.Memory alloc_error) }
     ensures unchanged { OnErr result (kept.new ≡ kept.old) }

@@ -70,7 +70,7 @@ fn list_unstable(heights: &[u64], generation: &mut IndexList)
 
 // Topples until no site may topple, and counts how often each site topples. Returns false before a generation if `budget`
 // sites or more have had their turn. What the two lists hold is dropped.
-fn topple_all(
+fn topple_generations(
     lattice: &Lattice,
     heights: &mut [u64],
     counts: &mut [u64],
@@ -125,5 +125,5 @@ pub(crate) fn topple_to_rest(
     let lattice = Lattice::new(alloc, shape)?;
     let generation = IndexList::new(alloc, room)?;
     let next = IndexList::new(alloc, room)?;
-    Ok(topple_all(&lattice, heights, counts, generation, next, budget))
+    Ok(topple_generations(&lattice, heights, counts, generation, next, budget))
 }

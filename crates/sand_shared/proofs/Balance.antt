@@ -16,19 +16,15 @@ grains_in_all start drops pile inside =
     let dropped = sum_below-occurrences (sites start.grid) drops inside in omega arith
 
 -- the drawn grains and those present grow by the same amount at each site
-pub balance_kept : (g : Grid) (s u r s' u' r' : ℕ → ℕ) → ((i : ℕ) → u' i ≡ u i)
-    → ((i : ℕ) → i < sites g → r' i + s i ≡ r i + s' i) → IsToppled g s u r
-    → IsToppled g s' u' r'
-balance_kept g s u r s' u' r' still even b = record {
+pub balance_kept : {g : Grid} {s u r s' u' r' : ℕ → ℕ} → IsToppled g s u r → ((i : ℕ) → u' i ≡ u i)
+    → ((i : ℕ) → i < sites g → r' i + s i ≡ r i + s' i) → IsToppled g s' u' r'
+balance_kept {g = g} {u = u} {u' = u'} b still even = record {
   balance = λ i l.
-      let before = b.balance i l in
-      let counts = still i in
-      let grains = even i l in
-      let around = flow_same g u' u (λ j _. still j) i l in omega arith;
+      omega (arith, b.balance i l, still i, even i l, flow_same g u' u (λ j _. still j) i l);
 }
 
 -- what stabilises more grains stabilises fewer
-pub stabilises_fewer : (g : Grid) (s s' w : ℕ → ℕ) → ((i : ℕ) → i < sites g → s i ≤ s' i) → Stabilises g s' w
+pub stabilises_fewer : {g : Grid} {s s' w : ℕ → ℕ} → Stabilises g s' w → ((i : ℕ) → i < sites g → s i ≤ s' i)
     → Stabilises g s w
-stabilises_fewer g s s' w fewer stab =
+stabilises_fewer stab fewer =
     record { at_most_three = λ i l. let a = stab.at_most_three i l in let b = fewer i l in omega arith }

@@ -12,7 +12,7 @@ use Rattle.sand_shared.specs.Events.{Event, draw, place, receipt, grains_for, ar
 use Rattle.sand_shared.specs.Plays.{Takes}
 use Rattle.sand_shared.specs.Running.{Shows, IsRunning, Stands, found, Finds, Happened}
 use Rattle.sand_shared.specs.Passes.{EachOnce, AllBelow}
-use Rattle.sand_shared.proofs.NumbersOnce.{once_more, below_push}
+use Rattle.sand_shared.proofs.ReceiptsTellHistory.{once_more, below_push}
 use Rattle.std.proofs.Math.Nat.{mod-add-div', add-mul-mod_self_right}
 use Rattle.std.proofs.Math.Seq.{lt-length-set}
 use Rattle.std.proofs.lemmas.List.Elements.{All-map, All-replicate, All-tail}
@@ -95,10 +95,7 @@ drew_none v n e =
 module _ (t : Terms) (a : ℕ) where
   drawn_long : (p : OpenPile) (is : List ℕ) → length (after_all t p (all_draws a is)).drawn ≡ length p.drawn + length is
   drawn_long p [] = omega arith
-  drawn_long p (i ∷ is) =
-      let e = drawn_long (after t p (draw a i)) is in
-      let b = length-append p.drawn (i ∷ []) in
-      omega arith
+  drawn_long p (i ∷ is) = omega (arith, drawn_long (after t p (draw a i)) is, length-append p.drawn (i ∷ []))
 
   pass_after_draw : (p : OpenPile) (i : ℕ) → a < length p.passes
       → pass_at (after t p (draw a i)) a ≡ drew (pass_at p a) (length p.drawn) i
@@ -204,16 +201,14 @@ module _ (t : Terms) (a : ℕ) (is : List ℕ) (v w : View) (n : ℕ)
   pub row_fresh : v.seen ≤ n
   row_fresh =
       let seen = (h.before.lawful.passes a nobody h.before.there).seen in
-      let same = ap (λ (u : View). u.seen) h.before.pass in
-      let number = number_is in omega arith
+      omega (arith, ap (λ (u : View). u.seen) h.before.pass, number_is)
 
   pub row_small : n + length is ≤ t.quota
   row_small =
       let p = h.before.pile in
       let few = few_drawn t (after_all t p (all_draws a is))
       (all_keep t p (all_draws a is) h.before.terms h.before.lawful h.may) in
-      let long = drawn_long t a p is in
-      let number = number_is in omega arith
+      omega (arith, drawn_long t a p is, number_is)
 
 -- Receipts of consecutive drops
 

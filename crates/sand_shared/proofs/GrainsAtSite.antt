@@ -1,20 +1,23 @@
--- Grains at one site, and what a toppling sends to the neighbours.
-use Rattle.std.proofs.Common.{◌≡◌, ℕ, ◌+◌, ◌-◌, ◌*◌, ◌<◌, ◌≤◌, ◌≢◌, List, ◌∷◌, ◌++◌, length, ltb, leb, true, false, refl, sym, ap, ◌∙◌, ⊎_elim, arith}
+-- Grains at one site, what a toppling sends to the neighbours, what follows from each site having one holder, and the
+-- counts of a pass as a list and by site.
+use Rattle.std.proofs.Common.{Bool, ◌≡◌, ℕ, ◌+◌, ◌-◌, ◌*◌, ◌<◌, ◌≤◌, ◌≢◌, List, ◌∷◌, ◌++◌, length, ltb, leb, true, false, refl, sym, ap, ◌∙◌, arith, zero, suc, take, sum}
 use Rattle.std.specs.Prelude.{slice_index, ◌&&◌}
-use Rattle.std.proofs.lemmas.Bool.{cases_lt, eq-eqb, ne_eqb}
+use Rattle.std.proofs.lemmas.Bool.{eq-eqb, ne_eqb}
 use Rattle.std.proofs.lemmas.Bool.Decides.{nat_tests}
-use Rattle.std.proofs.lemmas.List.{length-set}
-use Rattle.std.proofs.lemmas.List.Sums.{sum_by-cons, sum_by-append}
+use Rattle.std.proofs.lemmas.List.{length-set, take_all}
+use Rattle.std.proofs.lemmas.List.Sums.{sum_by-cons, sum_by-append, sum_by_more}
 use Rattle.sand_model.specs.Grid.{Grid, sites, neighbours}
-use Rattle.sand_model.specs.Sand.{flow, one_at}
+use Rattle.sand_model.specs.Sand.{flow, one_at, sum_below}
 use Rattle.sand_model.proofs.Flow.{flow_same, flow-scale, flow-one_at}
 use Rattle.sand_model.proofs.Heights.{counted}
 use Rattle.sand_shared.specs.declared.view.Grains.{Grains}
 use Rattle.sand_shared.specs.declared.view.View.{View}
 use Rattle.sand_shared.specs.declared.view.Terms.{Terms}
-use Rattle.sand_shared.specs.OpenPile.{grid_of_terms, amount_at, held, holds_site, toppled_by}
+use Rattle.sand_shared.specs.OpenPile.{grid_of_terms, amount_at, held, holds_site, toppled_by, OpenPile, nobody, toppled, pass_at, IsLawful}
 use Rattle.sand_shared.specs.Events.{grains_for, sent, raised, unloaded}
-use Rattle.sand_shared.proofs.SumsOverPasses.{sum_by-map}
+use Rattle.sand_shared.proofs.SumsOverPasses.{sum_by-map, sum_by_two, sum_by_only}
+use Rattle.sand_model.specs.Lists.{one_if}
+use Rattle.std.proofs.Math.ListN.{get_or-eq_default}
 
 pub amount_here : (i k j : ℕ) → i ≡ j → amount_at i k j ≡ k
 amount_here i k j e = rw (eq-eqb i j e)
@@ -51,32 +54,59 @@ pub place_inside : (v : View) (i : ℕ) → holds_site v i ≡ true → (v.base 
 place_inside v i own = (grind (arith, nat_tests), grind (arith, nat_tests))
 
 pub toppled_from : (v : View) (i : ℕ) → v.base ≤ i → toppled_by v i ≡ slice_index v.counts (i - v.base)
-toppled_from v i le = let t : leb v.base i ≡ true = grind (arith, nat_tests) in rw t
+toppled_from v i le = grind (arith, nat_tests)
 
 pub toppled_before : (v : View) (i : ℕ) → i < v.base → toppled_by v i ≡ 0
-toppled_before v i lt = let t : leb v.base i ≡ false = grind (arith, nat_tests) in rw t
-
-same_place : (i j b : ℕ) → b ≤ i → b ≤ j → one_at (i - b) (j - b) ≡ one_at i j
-same_place i j b li lj = grind (arith, nat_tests)
+toppled_before v i lt = grind (arith, nat_tests)
 
 -- a site has toppled k more times if a pass has toppled it k more times
 pub toppled-unloaded : (t : Terms) (v : View) (i k j : ℕ) → holds_site v i ≡ true
     → toppled_by (unloaded t v i k) j ≡ toppled_by v j + amount_at i k j
-toppled-unloaded t v i k j own = ⊎_elim
-    (λ (below : j < v.base).
-    let from = place_inside v i own in
-    let a = toppled_before (unloaded t v i k) j below in
-    let b = toppled_before v j below in
-    let c = amount_else i k j (λ e. absurd (omega arith)) in omega arith)
-    (λ (past : v.base ≤ j).
-    let at = place_inside v i own in
-    let a = toppled_from (unloaded t v i k) j past in
-    let b = toppled_from v j past in
-    let c = counted (i - v.base) k v.counts (raised v i k) at.1 refl (j - v.base) in
-    let d = amount_is i k j in
-    let e = ap (λ z. k * z) (same_place i j v.base at.0 past) in omega arith)
-    (cases_lt j v.base)
+toppled-unloaded t v i k j own =
+    let new = counted (i - v.base) k v.counts (raised v i k) (place_inside v i own).1 refl (j - v.base) in
+    grind (arith, nat_tests, new)
 
 pub holds-unloaded : (t : Terms) (v : View) (i k j : ℕ) → holds_site (unloaded t v i k) j ≡ holds_site v j
 holds-unloaded t v i k j = ap (λ n. leb v.base j && ltb j (v.base + n))
     (length-set v.counts (i - v.base) (slice_index v.counts (i - v.base) + k))
+
+-- a pass topples no site outside its rows
+pub toppled_outside : (v : View) (i : ℕ) → holds_site v i ≡ false → toppled_by v i ≡ 0
+toppled_outside v i out = grind (arith, nat_tests, get_or-eq_default v.counts 0)
+
+module _ (t : Terms) (p : OpenPile) (r : IsLawful t p) (a i : ℕ) (there : a < length p.passes)
+    (inside : i < sites (grid_of_terms t)) (own : holds_site (pass_at p a) i ≡ true) where
+  -- no other pass holds the site
+  pub others_without : (b : ℕ) → b < length p.passes → b ≢ a → holds_site (pass_at p b) i ≡ false
+  others_without b lb ne =
+      let two = sum_by_two (λ (u : View). one_if (holds_site u i)) p.passes a b nobody there lb ne in
+      let one = r.holders i inside in
+      let mine = ap one_if own in none_if (omega arith)
+    where
+      none_if : {x : Bool} → one_if x ≡ 0 → x ≡ false
+      none_if e = grind (arith, nat_tests)
+
+  -- so the site's topplings are the holder's
+  pub own_toppled : toppled p i ≡ toppled_by (pass_at p a) i
+  own_toppled = sum_by_only (λ (u : View). toppled_by u i) p.passes a nobody
+      there (λ b lb ne. toppled_outside (pass_at p b) i (others_without b lb ne))
+
+-- the sum over the first n sites is the sum of their counts
+counts_below : (v : View) (n : ℕ) → sum_below n (toppled_by v) ≡ sum (take (n - v.base) v.counts)
+unfolding sum_below
+counts_below v zero = ap (λ k. sum (take k v.counts)) {x = 0} {y = 0 - v.base} (omega arith)
+counts_below v (suc n) =
+    let before = counts_below v n in
+    let early = toppled_before v n in
+    let past = toppled_from v n in
+    let first : ℕ → ℕ = λ k. sum (take k v.counts) in
+    let same = λ (lt : n < v.base). ap first {x = n - v.base} {y = suc n - v.base} (omega arith) in
+    let next = λ (le : v.base ≤ n). ap first {x = (n - v.base) + 1} {y = suc n - v.base} (omega arith) in
+    let more = sum_by_more (λ (x : ℕ). x) v.counts (n - v.base) 0 in
+    let all = λ (le : length v.counts ≤ n - v.base). ap sum (take_all (n - v.base) v.counts le) in
+    let all_next = λ (le : length v.counts ≤ n - v.base). ap sum (take_all ((n - v.base) + 1) v.counts (omega arith)) in
+    let behind = get_or-eq_default v.counts 0 {n = n - v.base} in
+    grind (arith, nat_tests, before, early, past, same, next, more, all, all_next, behind)
+
+pub sum_counts : (v : View) (n : ℕ) → v.base + length v.counts ≤ n → sum_below n (toppled_by v) ≡ sum v.counts
+sum_counts v n fits = counts_below v n ∙ ap sum (take_all (n - v.base) v.counts (omega arith))

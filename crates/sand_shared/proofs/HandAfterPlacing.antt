@@ -1,15 +1,21 @@
--- A hand after grains are laid, in any order.
-use Rattle.std.proofs.Common.{◌≡◌, ℕ, zero, suc, ◌+◌, ◌<◌, ◌≤◌, List, [], ◌∷◌, All, true, false, ap, ◌∙◌, ⊎_elim, arith}
-use Rattle.std.specs.Prelude.{count_by}
+-- A hand after grains are laid, in any order. The grains of a list are counted by site and laid by site.
+use Rattle.std.proofs.Common.{◌≡◌, ℕ, zero, suc, ◌+◌, ◌<◌, ◌≤◌, List, [], ◌∷◌, All, true, false, ap, ◌∙◌, ⊎_elim, arith, ◌≢◌, eqb, take, length, set, get_or, sym, refl}
+use Rattle.std.specs.Prelude.{count_by, slice_index}
 use Rattle.std.proofs.lemmas.Bool.{cases_Bool}
 use Rattle.std.proofs.lemmas.Bool.Decides.{nat_tests}
-use Rattle.std.proofs.lemmas.List.Elements.{All-cons}
-use Rattle.std.proofs.lemmas.List.Sums.{sum_by-cons}
+use Rattle.std.proofs.lemmas.List.Elements.{All-cons, All-nil}
+use Rattle.std.proofs.lemmas.List.Sums.{sum_by-cons, sum_by_more, count_by-le-length}
 use Rattle.sand_model.specs.Lists.{one_if}
 use Rattle.sand_shared.specs.declared.view.Grains.{Grains}
 use Rattle.sand_shared.specs.OpenPile.{amount_at, held}
-use Rattle.sand_shared.specs.Events.{grains_for, behind_first, are_for, without}
-use Rattle.sand_shared.proofs.GrainsAtSite.{held-cons}
+use Rattle.sand_shared.specs.Events.{grains_for, behind_first, are_for, without, zeros, one_for_each}
+use Rattle.sand_shared.proofs.GrainsAtSite.{held-cons, amount_here, amount_is}
+use Rattle.std.proofs.lemmas.List.{ext_get_or, get_or-replicate, get_or_read, get_or-set_same, length-replicate, length-set, length-take}
+use Rattle.sand_model.specs.Sand.{occurrences, one_at}
+use Rattle.sand_model.proofs.Heights.{counted, get_or-written}
+use Rattle.sand_model.proofs.Occurrences.{occurrences-cons}
+use Rattle.sand_shared.proofs.SumsOverPasses.{sum_by-map}
+use Rattle.sand_shared.proofs.ReceiptsTellHistory.{one_if_other}
 
 module _ (i k : ℕ) where
   count-cons : (g : Grains) (gs : List Grains)
@@ -29,34 +35,31 @@ module _ (i k : ℕ) where
   pub held-without : (hand : List Grains) (j : ℕ) → 0 < count_by (are_for i k) hand
       → held hand j ≡ amount_at i k j + held (without i k hand) j
   held-without [] j some_there = absurd (omega arith)
-  held-without (g ∷ gs) j some_there =
-      let all = held-cons g gs j in
-      ⊎_elim
-      (λ (e : are_for i k g ≡ true).
-      let left = ap (λ l. held l j) (without-here g gs e) in
-      let same = same_grains g j e in omega arith)
-      (λ (e : are_for i k g ≡ false).
-      let count = count-cons g gs in
-      let none = ap one_if e in
-      let left = ap (λ l. held l j) (without-else g gs e) ∙ held-cons g (without i k gs) j in
-      let rest = held-without gs j (omega arith) in omega arith)
-      (cases_Bool (are_for i k g))
+  held-without (g ∷ gs) j some_there = grind (
+    arith,
+    nat_tests,
+    held-cons g gs j,
+    held-cons g (without i k gs) j,
+    count-cons g gs,
+    same_grains g j,
+    without-here g gs,
+    without-else g gs,
+    held-without gs j,
+  )
 
   -- there is one entry less
   pub count-without : (hand : List Grains) → 0 < count_by (are_for i k) hand
       → count_by (are_for i k) (without i k hand) + 1 ≡ count_by (are_for i k) hand
   count-without [] some_there = absurd (omega arith)
-  count-without (g ∷ gs) some_there =
-      let count = count-cons g gs in
-      ⊎_elim
-      (λ (e : are_for i k g ≡ true).
-      let one = ap one_if e in
-      let left = ap (count_by (are_for i k)) (without-here g gs e) in omega arith)
-      (λ (e : are_for i k g ≡ false).
-      let none = ap one_if e in
-      let left = ap (count_by (are_for i k)) (without-else g gs e) ∙ count-cons g (without i k gs) in
-      let rest = count-without gs (omega arith) in omega arith)
-      (cases_Bool (are_for i k g))
+  count-without (g ∷ gs) some_there = grind (
+    arith,
+    nat_tests,
+    count-cons g gs,
+    count-cons g (without i k gs),
+    without-here g gs,
+    without-else g gs,
+    count-without gs,
+  )
 
   all_without : (P : Grains → Type 0) (hand : List Grains) → All P hand → All P (without i k hand)
   all_without P [] all = all
@@ -92,10 +95,8 @@ module _ (i : ℕ) where
       → held hand j ≡ amount_at i c j + held (laid_on i c hand) j
   held-laid zero hand j enough = let z = none_at j in omega arith
   held-laid (suc c) hand j enough =
-      let one = held-without i 1 hand j (omega arith) in
       let less = count-without i 1 hand (omega arith) in
-      let rest = held-laid c (without i 1 hand) j (omega arith) in
-      let more = more_at c j in omega arith
+      omega (arith, held-without i 1 hand j (omega arith), held-laid c (without i 1 hand) j (omega arith), more_at c j)
 
   pub all_laid : (P : Grains → Type 0) (c : ℕ) (hand : List Grains) → All P hand → All P (laid_on i c hand)
   all_laid P zero hand all = all
@@ -103,3 +104,127 @@ module _ (i : ℕ) where
 
   pub last_laid : laid_on i 1 (grains_for i 1 ∷ []) ≡ []
   last_laid = without-here i 1 (grains_for i 1) [] (are_first i 1)
+
+-- an entry of the list finds the count of its site
+pub read_count : (n k c : ℕ) (counts drops : List ℕ)
+    → length counts ≡ n → All (λ i. i < n) drops
+    → k < length drops → c ≡ get_or counts (get_or drops k 0) c
+    → c ≡ slice_index counts (get_or drops k 0)
+read_count n k c counts drops long inside below read =
+    let here = inside k 0 below in
+    get_or_read counts (get_or drops k 0) c (omega arith) read 0
+
+-- one more entry is counted
+pub counted_more : (n k : ℕ) (counts drops : List ℕ)
+    → k < length drops → get_or drops k 0 < length counts
+    → ((i : ℕ) → i < n → slice_index counts i ≡ occurrences (take k drops) i)
+    → (i : ℕ) → i < n
+    → slice_index (set counts (get_or drops k 0) (slice_index counts (get_or drops k 0) + 1)) i
+    ≡ occurrences (take (k + 1) drops) i
+counted_more n k counts drops inside there so_far i l =
+    let x = get_or drops k 0 in
+    let before = so_far i l in
+    let new = counted x 1 counts (set counts x (slice_index counts x + 1)) there refl i in
+    let next = sum_by_more (λ y. one_at y i) drops k 0 inside in omega arith
+
+pub occurrences_small : (k : ℕ) (drops : List ℕ) (i : ℕ) → k < length drops → occurrences (take k drops) i ≤ k
+occurrences_small k drops i inside =
+    let few = count_by-le-length (λ j. eqb j i) (take k drops) in
+    omega (arith, length-take k drops)
+
+-- The grains in hand are single, and the counts say how many of them are for each site that is still to come.
+pub record Waits (n : ℕ) (counts : List ℕ) (hand : List Grains) (coming : List ℕ) : Type 0 where
+  pub len : length counts ≡ n
+  pub single : All (λ g. (g.site < n) × (g.amount ≡ 1)) hand
+  pub counted : (i : ℕ) → i < n → slice_index counts i ≡ held hand i
+  pub come : (i : ℕ) → i < n → 0 < slice_index counts i → 0 < occurrences coming i
+
+module _ (n : ℕ) where
+  all_single : (is : List ℕ) → All (λ i. i < n) is
+      → All (λ (g : Grains). (g.site < n) × (g.amount ≡ 1)) (one_for_each is)
+  all_single [] inside = All-nil (λ (g : Grains). (g.site < n) × (g.amount ≡ 1))
+  all_single (i ∷ is) inside =
+      All-cons (λ (g : Grains). (g.site < n) × (g.amount ≡ 1)) (grains_for i 1) (one_for_each is)
+      (inside 0 0 (omega arith), refl) (all_single is (λ k d l. inside (suc k) d (omega arith)))
+
+  held-one_for_each : (is : List ℕ) (j : ℕ) → held (one_for_each is) j ≡ occurrences is j
+  held-one_for_each is j = sum_by-map (λ (g : Grains). amount_at g.site g.amount j) (λ i. grains_for i 1) is
+
+  -- single grains for a site are as many as their entries
+  pub count_is : (i : ℕ) (hand : List Grains) → All (λ g. (g.site < n) × (g.amount ≡ 1)) hand
+      → count_by (are_for i 1) hand ≡ held hand i
+  count_is i [] single = refl
+  count_is i (g ∷ gs) single =
+      let all = held-cons g gs i in
+      let count = sum_by-cons (λ (x : Grains). one_if (are_for i 1 x)) g gs in
+      omega (arith, count_is i gs (λ k d l. single (suc k) d (omega arith)), here (single 0 g (omega arith)).1)
+    where
+      here : g.amount ≡ 1 → one_if (are_for i 1 g) ≡ amount_at g.site g.amount i
+      here e = grind (arith, nat_tests)
+
+  pub waits_all : (counts drops : List ℕ)
+      → length counts ≡ n → All (λ i. i < n) drops
+      → ((i : ℕ) → i < n → slice_index counts i ≡ occurrences drops i)
+      → Waits n counts (one_for_each drops) drops
+  waits_all counts drops long inside counted = record {
+    len = long;
+    single = all_single drops inside;
+    counted = λ i l. counted i l ∙ sym (held-one_for_each drops i);
+    come = λ i l some_there. (let e = counted i l in omega arith);
+  }
+
+  module _ (x : ℕ) (coming : List ℕ) where
+    come_else : (i : ℕ) → x ≢ i → 0 < occurrences (x ∷ coming) i → 0 < occurrences coming i
+    come_else i ne some_there = let all = occurrences-cons x coming i in let none = one_if_other x i ne in omega arith
+
+    -- the grains of this site were laid earlier
+    pub waits_past : (counts : List ℕ) (hand : List Grains)
+        → slice_index counts x ≡ 0 → Waits n counts hand (x ∷ coming)
+        → Waits n counts hand coming
+    waits_past counts hand none w = record {
+      len = w.len;
+      single = w.single;
+      counted = w.counted;
+      come = λ i l some_there.
+          come_else i (λ e. let same = ap (slice_index counts) e in absurd (omega arith)) (w.come i l some_there);
+    }
+
+    -- they are laid now
+    pub waits_laid : (counts : List ℕ) (hand : List Grains) → x < n → Waits n counts hand (x ∷ coming)
+        → Waits n (set counts x 0) (laid_on x (slice_index counts x) hand) coming
+    waits_laid counts hand inside w =
+        let c = slice_index counts x in
+        let all = w.counted x inside in
+        let same = count_is x hand w.single in
+        let gone = λ (i : ℕ). held-laid x c hand i (omega arith) in
+        let new = λ (i : ℕ). get_or-written counts x 0 i (omega arith) in
+        record {
+          len = length-set counts x 0 ∙ w.len;
+          single = all_laid x (λ g. (g.site < n) × (g.amount ≡ 1)) c hand w.single;
+          counted = λ i l. omega (arith, new i, amount_is x c i, w.counted i l, gone i);
+          come = λ i l some_there.
+              let a = new i in
+              come_else i (λ e.
+              let b = ap (slice_index (set counts x 0)) e in
+              let z = get_or-set_same counts x 0 0 (omega arith) in absurd (omega arith))
+              (w.come i l (omega arith));
+        }
+
+  none_counted : (counts : List ℕ) (hand : List Grains) → Waits n counts hand [] → (i : ℕ) → i < n
+      → slice_index counts i ≡ 0
+  none_counted counts hand w i l = grind (arith, w.come i l)
+
+  pub hand_empty : (counts : List ℕ) (hand : List Grains) → Waits n counts hand [] → hand ≡ []
+  hand_empty counts [] w = refl
+  hand_empty counts (g ∷ gs) w =
+      let one = w.single 0 g (omega arith) in
+      let here = amount_here g.site g.amount g.site refl in
+      let all = held-cons g gs g.site in
+      let none = none_counted counts (g ∷ gs) w g.site one.0 in
+      let same = w.counted g.site one.0 in
+      absurd (omega arith)
+
+  pub counts_zero : (counts : List ℕ) (hand : List Grains) → Waits n counts hand [] → counts ≡ zeros n
+  counts_zero counts hand w =
+      ext_get_or 0 counts (zeros n) (w.len ∙ sym (length-replicate n 0))
+      (λ i l. none_counted counts hand w i (omega arith) ∙ sym (get_or-replicate n i 0 0 (omega arith)))

@@ -1,25 +1,74 @@
--- The pile stays lawful when a pass draws a number for a grain, and when it lays grains in hand on their site.
-use Rattle.std.proofs.Common.{◌≡◌, ℕ, zero, suc, ◌+◌, ◌<◌, List, [], ◌∷◌, ◌++◌, Some, eqb, ltb, length, refl, ap, ◌∙◌, arith, length-append}
-use Rattle.std.specs.Prelude.{slice_get, count_by}
-use Rattle.std.proofs.lemmas.Bool.Decides.{nat_tests}
+-- The pile stays lawful when a pass reads the number of drops or the height of a site, draws a number for a grain, or
+-- lays grains in hand on their site.
+use Rattle.std.proofs.Common.{◌≡◌, ℕ, ◌+◌, ◌<◌, ◌≤◌, List, true, length, refl, ◌∙◌, arith, [], ◌∷◌, ◌++◌, Some, eqb, length-append}
+use Rattle.std.proofs.lemmas.List.Elements.{All-set, All-weaker, All-push}
 use Rattle.std.proofs.lemmas.List.Sums.{sum_by-set, sum_by_push}
-use Rattle.std.proofs.lemmas.List.Elements.{All-push, All-set, All-weaker}
 use Rattle.sand_model.specs.Grid.{sites}
 use Rattle.sand_model.specs.Lists.{one_if}
-use Rattle.sand_model.proofs.Occurrences.{occurrences-push}
 use Rattle.sand_shared.specs.declared.view.View.{View}
-use Rattle.sand_shared.specs.declared.view.Receipt.{Receipt}
+use Rattle.sand_shared.specs.declared.view.Grains.{Grains}
 use Rattle.sand_shared.specs.declared.view.Terms.{Terms}
-use Rattle.sand_shared.specs.OpenPile.{OpenPile, nobody, grid_of_terms, amount_at, numbered, receipts_for, held, holds_site, toppled_by, toppled, start_and_drawn, present, pass_at, IsLawfulPass, IsLawful}
-use Rattle.sand_shared.specs.Events.{draw, drew, receipt, grains_for, are_for, without, arrived, May, after}
+use Rattle.sand_shared.specs.OpenPile.{OpenPile, nobody, grid_of_terms, numbered, receipts_for, held, holds_site, toppled_by, pass_at, IsLawfulPass, IsLawful, amount_at}
+use Rattle.sand_shared.specs.Events.{count, look, with_pass, May, after, draw, drew, receipt, grains_for, are_for, without, arrived}
 use Rattle.sand_shared.proofs.SumsOverPasses.{sum_by_kept}
+use Rattle.sand_shared.proofs.Balance.{balance_kept, stabilises_fewer}
+use Rattle.std.specs.Prelude.{slice_get, count_by}
+use Rattle.std.proofs.lemmas.Grind.{common_steps}
+use Rattle.std.proofs.lemmas.Option.{gets}
+use Rattle.std.proofs.lemmas.Bool.Decides.{nat_tests}
+use Rattle.sand_model.proofs.Occurrences.{occurrences-push}
+use Rattle.sand_shared.specs.declared.view.Receipt.{Receipt}
 use Rattle.sand_shared.proofs.GrainsAtSite.{held-append}
 use Rattle.sand_shared.proofs.HandAfterPlacing.{held-without}
-use Rattle.sand_shared.proofs.Balance.{balance_kept, stabilises_fewer}
-use Rattle.sand_shared.proofs.LawfulAfterReads.{still_lawful}
 
-once_more : (x n : ℕ) → one_if (ltb x n) + one_if (eqb n x) ≡ one_if (ltb x (n + 1))
-once_more x n = grind (arith, nat_tests)
+-- a pass that neither drops nor topples: each site has as many grains, on it and in hand, as before
+pub still_lawful : (t : Terms) (p : OpenPile) (a seen spot least : ℕ) (hand : List Grains) (height : ℕ → ℕ)
+    → IsLawful t p → a < length p.passes
+    → let w = record (pass_at p a) { seen = seen; hand = hand; spot = spot; least = least } in
+    let q = record (with_pass p a w) { height = height } in
+    ((i : ℕ) → held hand i + height i ≡ held (pass_at p a).hand i + p.height i)
+    → IsLawfulPass t q w → ((u : View) → IsLawfulPass t p u → IsLawfulPass t q u)
+    → IsLawful t q
+still_lawful t p a seen spot least hand height r there same mine others =
+    let v = pass_at p a in
+    let w = record v { seen = seen; hand = hand; spot = spot; least = least } in
+    let q = record (with_pass p a w) { height = height } in
+    let kept = λ (f : View → ℕ) (e : f w ≡ f v). sum_by_kept f p.passes a w nobody there e in
+    let still = λ (i : ℕ). kept (λ u. toppled_by u i) refl in
+    record {
+      balance = balance_kept r.balance still (λ i l.
+          let c = sum_by-set (λ (u : View). held u.hand i) p.passes a w nobody there in let e = same i in omega arith);
+      needed = λ x stab i l. (let e = still i in let n = r.needed x stab i l in omega arith);
+      numbers = λ n. kept (λ u. numbered u.receipts n) refl ∙ r.numbers n;
+      receipts = kept (λ u. length u.receipts) refl ∙ r.receipts;
+      receipts_by_site = λ i. kept (λ u. receipts_for u.receipts i) refl ∙ r.receipts_by_site i;
+      all_sites = r.all_sites;
+      quota = (let e = kept (λ u. u.left) refl in omega arith);
+      holders = λ i l. kept (λ u. one_if (holds_site u i)) refl ∙ r.holders i l;
+      passes = All-set (IsLawfulPass t q) p.passes a w mine
+          (All-weaker (IsLawfulPass t p) (IsLawfulPass t q) others p.passes r.passes);
+    }
+
+learns : (t : Terms) (p : OpenPile) (a seen spot least : ℕ) → IsLawful t p → a < length p.passes → seen ≤ length p.drawn
+    → (holds_site (pass_at p a) spot ≡ true → spot < sites (grid_of_terms t) → least ≤ p.height spot)
+    → IsLawful t (with_pass p a (record (pass_at p a) { seen = seen; spot = spot; least = least }))
+learns t p a seen spot least r there le found =
+    let mine = r.passes a nobody there in
+    still_lawful t p a seen spot least (pass_at p a).hand p.height r there (λ i. refl)
+    record { seen = le; receipts = mine.receipts; hand = mine.hand; least = found }
+    (λ u f. record { seen = f.seen; receipts = f.receipts; hand = f.hand; least = f.least })
+
+pub count_keeps : (t : Terms) (p : OpenPile) (a : ℕ) → IsLawful t p → May t p (count a)
+    → IsLawful t (after t p (count a))
+count_keeps t p a r may =
+    let v = pass_at p a in
+    learns t p a (length p.drawn) v.spot v.least r may (omega arith) (r.passes a nobody may).least
+
+pub look_keeps : (t : Terms) (p : OpenPile) (a i : ℕ) → IsLawful t p → May t p (look a i)
+    → IsLawful t (after t p (look a i))
+look_keeps t p a i r may =
+    let v = pass_at p a in
+    learns t p a v.seen i (p.height i) r may.there (r.passes a nobody may.there).seen (λ _ _. omega arith)
 
 dropped-push : (rs : List Receipt) (n i j : ℕ) → receipts_for (rs ++ receipt n i ∷ []) j ≡ receipts_for rs j + one_if (eqb i j)
 dropped-push rs n i j = sum_by_push (λ (r : Receipt). one_if (eqb r.site j)) rs (receipt n i)
@@ -28,13 +77,10 @@ numbered-push : (rs : List Receipt) (n i x : ℕ) → numbered (rs ++ receipt n 
 numbered-push rs n i x = sum_by_push (λ (r : Receipt). one_if (eqb r.number x)) rs (receipt n i)
 
 get_longer : (xs : List ℕ) (y k x : ℕ) → slice_get xs k ≡ Some x → slice_get (xs ++ y ∷ []) k ≡ Some x
-get_longer [] y k x e = absurd cc
-get_longer (z ∷ zs) y zero x e = e
-get_longer (z ∷ zs) y (suc k) x e = get_longer zs y k x e
+get_longer xs y k x e = grind (arith, common_steps, gets)
 
 get_last : (xs : List ℕ) (y : ℕ) → slice_get (xs ++ y ∷ []) (length xs) ≡ Some y
-get_last [] y = refl
-get_last (x ∷ xs) y = get_last xs y
+get_last xs y = grind (arith, common_steps, gets)
 
 module _ (t : Terms) (p : OpenPile) (a i : ℕ) (r : IsLawful t p) (may : May t p (draw a i)) where
   drawn_pass : IsLawfulPass t (after t p (draw a i)) (drew (pass_at p a) (length p.drawn) i)
@@ -47,9 +93,7 @@ module _ (t : Terms) (p : OpenPile) (a i : ℕ) (r : IsLawful t p) (may : May t 
         receipts = All-push (λ q. slice_get (p.drawn ++ i ∷ []) q.number ≡ Some q.site) v.receipts (receipt n i)
             (λ k d l. get_longer p.drawn i _ _ (f.receipts k d l)) (get_last p.drawn i);
         hand = λ j l. (let h = f.hand j l in
-            let b = held-append v.hand (grains_for i 1 ∷ []) j in
-            let c = dropped-push v.receipts n i j in
-            omega arith);
+            omega (arith, held-append v.hand (grains_for i 1 ∷ []) j, dropped-push v.receipts n i j));
         least = f.least;
       }
 
@@ -74,31 +118,17 @@ module _ (t : Terms) (p : OpenPile) (a i : ℕ) (r : IsLawful t p) (may : May t 
       let still = λ (j : ℕ). kept (λ u. toppled_by u j) refl in
       let longer = length-append p.drawn (i ∷ []) in
       record {
-        balance = balance_kept (grid_of_terms t) (start_and_drawn t p) (toppled p)
-            (present p) (start_and_drawn t q) (toppled q) (present q) still
-            (λ j l.
+        balance = balance_kept r.balance still (λ j l.
             let c = changed (λ u. held u.hand j) in
-            let h = held-append v.hand (grains_for i 1 ∷ []) j in
-            let d = occurrences-push p.drawn i j in
-            omega arith) r.balance;
+            let h = held-append v.hand (grains_for i 1 ∷ []) j in let d = occurrences-push p.drawn i j in omega arith);
         needed = λ x stab j l. (let e = still j in
-            let m = r.needed x (stabilises_fewer (grid_of_terms t) (start_and_drawn t p)
-            (start_and_drawn t q) x (λ k _. let d = occurrences-push p.drawn i k in omega arith) stab)
-            j l in
+            let m = r.needed x (stabilises_fewer stab (λ k _. omega (arith, occurrences-push p.drawn i k))) j l in
             omega arith);
         numbers = λ x. (let c = changed (λ u. numbered u.receipts x) in
-            let b = numbered-push v.receipts n i x in
-            let o = r.numbers x in
-            let m = once_more x n in
-            let e = ap (λ k. one_if (ltb x k)) longer in omega arith);
-        receipts = (let c = changed (λ u. length u.receipts) in
-            let b = length-append v.receipts (receipt n i ∷ []) in
-            omega arith);
+            grind (arith, nat_tests, c, numbered-push v.receipts n i x, r.numbers x, longer));
+        receipts = omega (arith, changed (λ u. length u.receipts), length-append v.receipts (receipt n i ∷ []));
         receipts_by_site = λ j. (let c = changed (λ u. receipts_for u.receipts j) in
-            let b = dropped-push v.receipts n i j in
-            let o = r.receipts_by_site j in
-            let d = occurrences-push p.drawn i j in
-            omega arith);
+            omega (arith, dropped-push v.receipts n i j, r.receipts_by_site j, occurrences-push p.drawn i j));
         all_sites = All-push (λ j. j < sites (grid_of_terms t)) p.drawn i r.all_sites may.inside;
         quota = (let c = changed (λ u. u.left) in omega arith);
         holders = λ j l. kept (λ u. one_if (holds_site u j)) refl ∙ r.holders j l;

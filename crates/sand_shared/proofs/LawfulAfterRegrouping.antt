@@ -9,7 +9,7 @@ use Rattle.sand_model.specs.Lists.{one_if}
 use Rattle.sand_shared.specs.declared.view.View.{View}
 use Rattle.sand_shared.specs.declared.view.Receipt.{Receipt}
 use Rattle.sand_shared.specs.declared.view.Terms.{Terms}
-use Rattle.sand_shared.specs.OpenPile.{OpenPile, grid_of_terms, nobody, numbered, receipts_for, held, holds_site, toppled_by, toppled, start_and_drawn, present, pass_at, IsLawfulPass, IsLawful}
+use Rattle.sand_shared.specs.OpenPile.{OpenPile, nobody, numbered, receipts_for, held, holds_site, toppled_by, toppled, pass_at, IsLawfulPass, IsLawful}
 use Rattle.sand_shared.specs.Events.{split, join, parent, child, joined, May, after}
 use Rattle.sand_shared.proofs.Balance.{balance_kept}
 use Rattle.sand_shared.proofs.RowPartsAddUp.{none_toppled, cut_parts, parts_hold, parts_toppled, joined_rows}
@@ -37,9 +37,8 @@ regrouped t p views v w x y r a stays each =
     let q = record p { passes = views } in
     let still = λ (i : ℕ). stays (λ u. toppled_by u i) (a.toppled i) (none_toppled nobody i refl) in
     record {
-      balance =
-          balance_kept (grid_of_terms t) (start_and_drawn t p) (toppled p) (present p) (start_and_drawn t q) (toppled q)
-          (present q) still (λ i l. let h = stays (λ u. held u.hand i) (a.hands i) refl in omega arith) r.balance;
+      balance = balance_kept r.balance still (λ i l.
+          let h = stays (λ u. held u.hand i) (a.hands i) refl in omega arith);
       needed = λ z stab i l. (let e = still i in let n = r.needed z stab i l in omega arith);
       numbers = λ n. stays (λ u. numbered u.receipts n) (a.numbers n) refl ∙ r.numbers n;
       receipts = stays (λ u. length u.receipts) a.receipts refl ∙ r.receipts;
@@ -77,9 +76,7 @@ module _ (t : Terms) (p : OpenPile) (a q n : ℕ) (r : IsLawful t p) (may : May 
         numbers = λ x. omega arith;
         drops = λ i. omega arith;
         hands = λ i. omega arith;
-        toppled = λ i. (let b = parts_toppled (parent v q n) (child v q n) v parts i in
-            let z = none_toppled nobody i refl in
-            omega arith);
+        toppled = λ i. omega (arith, parts_toppled (parent v q n) (child v q n) v parts i, none_toppled nobody i refl);
         sites_held = λ i.
             (let b = parts_hold (parent v q n) (child v q n) v parts i in let z = none_held i in omega arith);
       }
@@ -152,8 +149,6 @@ module _ (t : Terms) (p : OpenPile) (a b : ℕ) (r : IsLawful t p) (may : May t 
       regrouped t p views v w x nobody r join_shares
       (λ f even zero.
       let c = sum_by-set f p.passes a x nobody may.there in
-      let d = sum_by-set f halfway b nobody nobody (let l = may.other_there in omega arith) in
-      let e = ap f still in
-      omega arith)
+      omega (arith, sum_by-set f halfway b nobody nobody (let l = may.other_there in omega arith), ap f still))
       (All-set P halfway b nobody (bare_pass t (record p { passes = views }) nobody (omega arith) refl refl refl)
       (All-set P p.passes a x (joined_pass views) (λ k d l. same_pile t p views _ (r.passes k d l))))

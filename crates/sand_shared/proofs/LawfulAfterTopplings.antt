@@ -1,7 +1,6 @@
 -- The pile stays lawful when a pass takes grains from a site of its rows, to send them to the neighbours.
 -- No site topples more often than needed (least action): the grains are on it, so w topples it too.
-use Rattle.std.proofs.Common.{◌≡◌, ℕ, ◌+◌, ◌-◌, ◌*◌, ◌<◌, ◌≤◌, ◌≢◌, Bool, true, false, length, sym, refl, ap, ◌∙◌, ⊎_elim, arith}
-use Rattle.std.proofs.lemmas.Bool.{cases_eq}
+use Rattle.std.proofs.Common.{◌≡◌, ℕ, ◌+◌, ◌-◌, ◌*◌, ◌<◌, ◌≤◌, ◌≢◌, true, false, true≢false, length, sym, refl, ap, ◌∙◌, arith}
 use Rattle.std.proofs.lemmas.Bool.Decides.{nat_tests}
 use Rattle.std.proofs.lemmas.List.Sums.{sum_by-set}
 use Rattle.sand_model.specs.Grid.{sites}
@@ -14,8 +13,7 @@ use Rattle.sand_shared.specs.declared.view.Terms.{Terms}
 use Rattle.sand_shared.specs.OpenPile.{OpenPile, nobody, grid_of_terms, amount_at, numbered, receipts_for, held, holds_site, toppled_by, toppled, start_and_drawn, present, pass_at, IsLawfulPass, IsLawful}
 use Rattle.sand_shared.specs.Events.{unload, unloaded, sent, May, after}
 use Rattle.sand_shared.proofs.SumsOverPasses.{sum_by_kept, all_put}
-use Rattle.sand_shared.proofs.GrainsAtSite.{amount_here, amount_else, flow-amount, held-append, held-sent, toppled-unloaded, holds-unloaded}
-use Rattle.sand_shared.proofs.OneHolder.{others_without}
+use Rattle.sand_shared.proofs.GrainsAtSite.{amount_else, flow-amount, held-append, held-sent, toppled-unloaded, holds-unloaded, others_without}
 
 module _ (t : Terms) (p : OpenPile) (a i k : ℕ) (r : IsLawful t p) (may : May t p (unload a i k)) where
   -- what the site loses
@@ -54,19 +52,11 @@ module _ (t : Terms) (p : OpenPile) (a i k : ℕ) (r : IsLawful t p) (may : May 
       → (j : ℕ) → j < sites (grid_of_terms t)
       → toppled (after t p (unload a i k)) j ≤ w j
   unload_needed w stab j l =
-      let u = more_toppled j in
-      let bound = r.needed w stab j l in
-      ⊎_elim
-      (λ (e : i ≡ j).
-      let c = amount_here i k j e in
       let b = r.balance.balance i may.inside in
       let step =
       least_action (grid_of_terms t) (start_and_drawn t p) (toppled p)
       w i k may.inside stab (r.needed w stab) (omega arith) in
-      let x = ap (toppled p) e in
-      let y = ap w e in omega arith)
-      (λ (ne : i ≡ j → ⊥). let c = amount_else i k j ne in omega arith)
-      (cases_eq i j)
+      grind (arith, nat_tests, more_toppled j, r.needed w stab j l, step)
 
   unloaded_pass : IsLawfulPass t (after t p (unload a i k)) (unloaded t (pass_at p a) i k)
   unloaded_pass =
@@ -94,13 +84,10 @@ module _ (t : Terms) (p : OpenPile) (a i k : ℕ) (r : IsLawful t p) (may : May 
         receipts = f.receipts;
         hand = f.hand;
         least = λ own l. (let o = f.least own l in
-            let apart : i ≢ u.spot =
-            λ e. clash (ap (holds_site u) e ∙ own) (others_without t p r a i may.there may.inside may.own b lb ne) in
+            let apart : i ≢ u.spot = λ e. true≢false
+            (sym (ap (holds_site u) e ∙ own) ∙ others_without t p r a i may.there may.inside may.own b lb ne) in
             let c = amount_else i (4 * k) u.spot apart in omega arith);
       }
-    where
-      clash : {b : Bool} → b ≡ true → b ≡ false → ⊥
-      clash x y = cc
 
   pub unload_keeps : IsLawful t (after t p (unload a i k))
   unload_keeps =

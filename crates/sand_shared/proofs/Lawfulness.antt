@@ -1,20 +1,67 @@
--- Each event keeps the pile lawful, so any list of events does.
-use Rattle.std.proofs.Common.{length, ◌≡◌, ℕ, ◌+◌, ◌<◌, ◌≤◌, List, [], ◌∷◌, ◌++◌, sum, sum_by, refl, ap, arith}
-use Rattle.sand_model.specs.Grid.{sites}
-use Rattle.sand_model.specs.Sand.{grains}
+-- The initial pile is lawful, and each event keeps it lawful, so any list of events does.
+use Rattle.std.proofs.Common.{◌≡◌, ℕ, zero, suc, ◌-◌, ◌*◌, ◌<◌, ◌≤◌, [], Some, length, get_or, refl, arith, ◌+◌, List, ◌∷◌, ◌++◌, sum, sum_by, ap}
+use Rattle.std.specs.Prelude.{slice_get}
+use Rattle.std.proofs.lemmas.Bool.Decides.{nat_tests}
+use Rattle.std.proofs.lemmas.List.{length-replicate}
+use Rattle.std.proofs.lemmas.List.Elements.{All-cons, All-nil}
+use Rattle.std.proofs.Math.Nat.{mul-le-mul_right}
+use Rattle.sand_model.specs.Grid.{Grid, IsGrid, sites}
 use Rattle.sand_model.specs.Lists.{one_if}
+use Rattle.sand_model.proofs.Flow.{flow_none}
+use Rattle.sand_shared.specs.declared.view.Receipt.{Receipt}
+use Rattle.sand_shared.specs.declared.view.Terms.{Terms}
+use Rattle.sand_shared.specs.OpenPile.{grid_of_terms, holds_site, toppled, IsLawfulPass, IsLawful, OpenPile, present, start_and_drawn, AreTerms}
+use Rattle.sand_shared.specs.Events.{begin, unopened, zeros, first_pass, after, Event, draw, place, count, split, join, look, unload, deliver, May, AllHappen, after_all}
+use Rattle.sand_shared.proofs.GrainsAtSite.{toppled_from}
+use Rattle.sand_model.specs.Sand.{grains}
 use Rattle.sand_model.proofs.Bounds.{at_most_sum_below}
 use Rattle.sand_model.proofs.Sandpile.{laplacian_sum}
 use Rattle.sand_shared.specs.declared.view.View.{View}
-use Rattle.sand_shared.specs.declared.view.Terms.{Terms}
-use Rattle.sand_shared.specs.OpenPile.{OpenPile, grid_of_terms, holds_site, present, start_and_drawn, toppled, AreTerms, IsLawful}
-use Rattle.sand_shared.specs.Events.{Event, begin, draw, place, count, split, join, look, unload, deliver, unopened, May, after, AllHappen, after_all}
 use Rattle.sand_shared.proofs.Balance.{grains_in_all}
-use Rattle.sand_shared.proofs.LawfulAtBegin.{some_sites, begun}
-use Rattle.sand_shared.proofs.LawfulAfterReads.{count_keeps, look_keeps}
-use Rattle.sand_shared.proofs.LawfulAfterDrops.{draw_keeps, arrived_keeps}
+use Rattle.sand_shared.proofs.LawfulAfterDrops.{count_keeps, look_keeps, draw_keeps, arrived_keeps}
 use Rattle.sand_shared.proofs.LawfulAfterTopplings.{unload_keeps}
 use Rattle.sand_shared.proofs.LawfulAfterRegrouping.{split_keeps, join_keeps}
+
+pub get-zeros : (n k : ℕ) → get_or (zeros n) k 0 ≡ 0
+get-zeros zero k = refl
+get-zeros (suc n) zero = refl
+get-zeros (suc n) (suc k) = get-zeros n k
+
+pub some_sites : (g : Grid) → IsGrid g → 0 < sites g
+some_sites g sides =
+    let m : 1 * g.height ≤ g.width * g.height = mul-le-mul_right g.height sides.some_width in omega arith
+
+module _ (t : Terms) where
+  none_yet : (i : ℕ) → toppled (after t (unopened t) begin) i ≡ 0
+  none_yet i = omega (arith, toppled_from (first_pass t) i (omega arith), get-zeros (sites (grid_of_terms t)) (i - 0))
+
+  all_held : (i : ℕ) → i < sites (grid_of_terms t) → one_if (holds_site (first_pass t) i) ≡ 1
+  all_held i l = grind (arith, nat_tests, length-replicate {A = ℕ} (sites (grid_of_terms t)) 0)
+
+  first_lawful : IsLawfulPass t (after t (unopened t) begin) (first_pass t)
+  first_lawful = record {
+    seen = omega arith;
+    receipts = All-nil (λ (q : Receipt). slice_get [] q.number ≡ Some q.site);
+    hand = λ i l. omega arith;
+    least = λ own l. omega arith;
+  }
+
+  pub begun : IsLawful t (after t (unopened t) begin)
+  begun = record {
+    balance = record {
+      balance = λ i l. (let a = none_yet i in
+          omega (arith, flow_none (grid_of_terms t) (toppled (after t (unopened t) begin)) i (λ j _. none_yet j) l));
+    };
+    needed = λ w stab i l. (let a = none_yet i in omega arith);
+    numbers = λ n. grind (arith, nat_tests);
+    receipts = refl;
+    receipts_by_site = λ i. refl;
+    all_sites = All-nil (λ i. i < sites (grid_of_terms t));
+    quota = omega arith;
+    holders = λ i l. (let a = all_held i l in omega arith);
+    passes = All-cons (IsLawfulPass t (after t (unopened t) begin)) (first_pass t)
+        [] first_lawful (All-nil (IsLawfulPass t (after t (unopened t) begin)));
+  }
 
 pub event_keeps : (t : Terms) (p : OpenPile) (e : Event) → AreTerms t → IsLawful t p → May t p e
     → IsLawful t (after t p e)
@@ -62,8 +109,7 @@ pub few_present : (t : Terms) (p : OpenPile) → AreTerms t → IsLawful t p →
 few_present t p terms r i inside =
     let g = grid_of_terms t in
     let one = at_most_sum_below (sites g) (present p) i inside in
-    let all = laplacian_sum g (start_and_drawn t p) (toppled p) (present p) r.balance in
-    let few = few_grains t p terms r in omega arith
+    omega (arith, laplacian_sum g (start_and_drawn t p) (toppled p) (present p) r.balance, few_grains t p terms r)
 
 pub few_drawn : (t : Terms) (p : OpenPile) → IsLawful t p → length p.drawn ≤ t.quota
 few_drawn t p r = omega arith

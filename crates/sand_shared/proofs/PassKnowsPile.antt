@@ -20,8 +20,7 @@ use Rattle.sand_shared.specs.Seats.{HasAll}
 use Rattle.sand_shared.specs.Sweeps.{start_and_receipts, LeavesAtMost, IsSparing}
 use Rattle.sand_shared.proofs.SumsOverPasses.{sum_by_two, sum_by_only, sum_by_none, sum_by_plus, sum_by_beside, sum_by_swap}
 use Rattle.sand_shared.proofs.Balance.{stabilises_fewer}
-use Rattle.sand_shared.proofs.OneHolder.{toppled_outside, others_without, own_toppled}
-use Rattle.sand_shared.proofs.SumOfCounts.{sum_counts}
+use Rattle.sand_shared.proofs.GrainsAtSite.{toppled_outside, others_without, own_toppled, sum_counts}
 use Rattle.sand_shared.proofs.Lawfulness.{event_keeps, few_grains}
 use Rattle.sand_shared.proofs.ReceiptsTellHistory.{one_below}
 use Rattle.std.proofs.lemmas.List.{nil_from_length}
@@ -54,8 +53,7 @@ module _ (t : Terms) (p : OpenPile) (r : IsLawful t p) (a : ℕ) (there : a < le
       p.passes a nobody there (ap (λ hand. held hand i) free)
       (λ j l. (r.passes j nobody l).hand i inside) in
       let parts = sum_by_plus (λ (u : View). receipts_for u.receipts i) (λ (u : View). flow g (toppled_by u) i) p.passes in
-      let around = all_flow t p i in
-      let drops = r.receipts_by_site i in omega arith
+      omega (arith, all_flow t p i, r.receipts_by_site i)
 
   few : AreTerms t → (pass_at p a).base + length (pass_at p a).counts ≤ sites (grid_of_terms t)
       → sum (pass_at p a).counts < 2 ^ 54
@@ -83,9 +81,7 @@ module _ (t : Terms) (p : OpenPile) (r : IsLawful t p) (a : ℕ) (there : a < le
     knows : KnowsAll t p (pass_at p a)
     knows = record {
       receipts = sym (only (λ rs. length rs) refl) ∙ r.receipts;
-      numbers = λ n l. (let mine = only (λ rs. numbered rs n) refl in
-          let all = r.numbers n in
-          let one = one_below n (length p.drawn) l in omega arith);
+      numbers = λ n l. omega (arith, only (λ rs. numbered rs n) refl, r.numbers n, one_below n (length p.drawn) l);
       drops = λ i. sym (r.receipts_by_site i) ∙ only (λ rs. receipts_for rs i) refl;
       topplings = λ i l. own_toppled t p r a i there l (all.all_sites i l);
       hands = λ free i l. sum_by_none (λ (u : View). held u.hand i) p.passes nobody (λ b lb. ⊎_elim
@@ -127,8 +123,7 @@ module _ {t : Terms} {a : ℕ} {v : View} (s : Stands t a v) (all : HasAll t v) 
         let before = s.lawful.balance.balance i inside in
         let none = k.hands free i inside in
         let own = k.topplings i inside in
-        let drops = k.drops i in
-        let around = flow_same (grid_of_terms t) (toppled s.pile) (toppled_by v) k.topplings i inside in omega arith;
+        omega (arith, k.drops i, flow_same (grid_of_terms t) (toppled s.pile) (toppled_by v) k.topplings i inside);
   }
 
   pub stands_sparing : v.base + length v.counts ≤ sites (grid_of_terms t) → IsSparing t v
@@ -139,9 +134,7 @@ module _ {t : Terms} {a : ℕ} {v : View} (s : Stands t a v) (all : HasAll t v) 
       record {
         needed = λ w stab i inside.
             let own = k.topplings i inside in
-            let n = s.lawful.needed w (stabilises_fewer g (start_and_drawn t p) (start_and_receipts t v) w
-            (λ j _. let d = k.drops j in omega arith) stab) i inside in
-            omega arith;
+            omega (arith, s.lawful.needed w (stabilises_fewer stab (λ j _. let d = k.drops j in omega arith)) i inside);
         weighed = (let falls = weight_after g (start_and_drawn t p) (toppled p) (present p) s.lawful.balance in
             let start =
             sum_below_same (sites g) (λ i. start_and_drawn t p i * grain_weight g i)
@@ -155,9 +148,7 @@ module _ {t : Terms} {a : ℕ} {v : View} (s : Stands t a v) (all : HasAll t v) 
 pub looked_exactly : {t : Terms} {a i : ℕ} {v w : View} {n : ℕ}
     → Happened t a (look a i ∷ []) v n w → v.hand ≡ [] → HasAll t v
     → n + 4 * toppled_by v i ≡ start_and_receipts t v i + flow (grid_of_terms t) (toppled_by v) i
-looked_exactly {i = i} h free all =
-    let left = (left_exactly h.before all free).balance i h.may.0.inside in
-    omega arith
+looked_exactly {i = i} h free all = omega (arith, (left_exactly h.before all free).balance i h.may.0.inside)
 
 -- after an unload the pass still belongs to a lawful pile
 pub stands_unloaded : {t : Terms} {a i k : ℕ} {v w : View} {n : ℕ} → Happened t a (unload a i k ∷ []) v n w

@@ -1,9 +1,8 @@
 -- The sums in a record are right, and small.
-use Rattle.std.proofs.Common.{◌≡◌, ℕ, ◌+◌, ◌-◌, ◌*◌, ◌^◌, ◌<◌, ◌≤◌, List, ◌++◌, All, length, sum, sym, ap, ◌∙◌, subst, ⊎_elim, arith, length-append}
+use Rattle.std.proofs.Common.{◌≡◌, ℕ, ◌+◌, ◌-◌, ◌*◌, ◌^◌, ◌<◌, ◌≤◌, List, ◌++◌, All, length, sum, sym, ap, ◌∙◌, subst, arith, length-append}
 use Rattle.std.specs.Prelude.{slice_index}
 use Rattle.std.proofs.Math.ListN.{get_or-eq_default}
 use Rattle.std.proofs.Math.Nat.{mul-add}
-use Rattle.std.proofs.lemmas.Bool.{cases_lt}
 use Rattle.std.proofs.lemmas.List.Sums.{get_or-le-sum_by}
 use Rattle.std.proofs.lemmas.List.Elements.{All-append}
 use Rattle.sand_model.specs.Grid.{Grid, sites, missing}
@@ -105,17 +104,13 @@ settled_record r one =
 
 pub small_entries : (r : RecordView) → IsOneThreads r → (i : ℕ) → odometer_of r.settled i < 2 ^ 54
 small_entries r one i =
-    let few = few_in_all r one in ⊎_elim
-    (λ (inside : i < length r.settled.odometer).
-    let le = get_or-le-sum_by (λ (x : ℕ). x) r.settled.odometer i 0 inside in omega arith)
-    (λ (past : length r.settled.odometer ≤ i).
-    let e = get_or-eq_default r.settled.odometer 0 {n = i} past in omega arith)
-    (cases_lt i (length r.settled.odometer))
+    let few = few_in_all r one in
+    let inside = get_or-le-sum_by (λ (x : ℕ). x) r.settled.odometer i 0 in
+    let past = get_or-eq_default r.settled.odometer 0 {n = i} in grind (arith, few, inside, past)
 
 pub small_topplings : (r : RecordView) → IsOneThreads r → r.settled.topplings < 2 ^ 54
 small_topplings r one =
-    let few = few_in_all r one in
-    let sums = sum_is_grains r.start.grid r.settled.odometer one.settled.odometer_each in omega arith
+    omega (arith, few_in_all r one, sum_is_grains r.start.grid r.settled.odometer one.settled.odometer_each)
 
 pub small_lost : (r : RecordView) → IsOneThreads r → r.settled.lost ≤ most_grains
 small_lost r one = omega arith
@@ -149,14 +144,12 @@ module _ (r q : RecordView) (sums : List ℕ) (joined : AreJoined r q sums) wher
   same_grid = ap (λ (p : PileView). p.grid) joined.joint ∙ joined.first.settled.grid
 
   all_each : (i : ℕ) → slice_index sums i ≡ odometer_of r.settled i + odometer_of q.settled i
-  all_each i = ⊎_elim (joined.each i) past (cases_lt i (length q.settled.odometer))
-    where
-      past : length q.settled.odometer ≤ i → slice_index sums i ≡ odometer_of r.settled i + odometer_of q.settled i
-      past le =
-          let grids = ap sites same_grid in
-          let a = get_or-eq_default sums 0 {n = i} (omega arith) in
-          let b = get_or-eq_default r.settled.odometer 0 {n = i} (omega arith) in
-          let c = get_or-eq_default q.settled.odometer 0 {n = i} le in omega arith
+  all_each i =
+      let grids = ap sites same_grid in
+      let each = joined.each i in
+      let a = get_or-eq_default sums 0 {n = i} in
+      let b = get_or-eq_default r.settled.odometer 0 {n = i} in
+      let c = get_or-eq_default q.settled.odometer 0 {n = i} in grind (arith, grids, each, a, b, c)
 
   both_settled : IsSettled r.start.grid (λ i. height_of r.start i + occurrences (r.history ++ q.history) i)
       (slice_index sums) (height_of q.settled.pile)

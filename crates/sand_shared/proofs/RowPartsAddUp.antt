@@ -1,7 +1,7 @@
 -- Rows in two parts: together the parts hold, and have toppled, what the whole does.
-use Rattle.std.proofs.Common.{◌≡◌, ℕ, ◌+◌, ◌-◌, ◌<◌, ◌≤◌, ◌⊎◌, List, ◌++◌, true, false, length, get_or, leb, ltb, sym, refl, ap, ◌∙◌, subst, inl, inr, ⊎_elim, arith, length-append}
+use Rattle.std.proofs.Common.{◌≡◌, ℕ, ◌+◌, ◌-◌, ◌<◌, ◌≤◌, ◌⊎◌, List, ◌++◌, true, false, length, get_or, leb, ltb, sym, refl, ap, ◌∙◌, subst, inr, ⊎_elim, arith, length-append}
 use Rattle.std.specs.Prelude.{slice_index, ◌&&◌, ◌||◌}
-use Rattle.std.proofs.lemmas.Bool.{cases_eq, cases_lt, cases_Bool}
+use Rattle.std.proofs.lemmas.Bool.{cases_Bool}
 use Rattle.std.proofs.lemmas.Bool.Decides.{nat_tests}
 use Rattle.std.proofs.lemmas.List.{get_or-take, get_or-drop, get_or_append_left, get_or-append-add, length-drop, length-take-le}
 use Rattle.std.proofs.Math.ListN.{get_or-eq_default}
@@ -9,8 +9,7 @@ use Rattle.sand_model.specs.Lists.{one_if}
 use Rattle.sand_shared.specs.declared.view.View.{View}
 use Rattle.sand_shared.specs.OpenPile.{holds_site, toppled_by}
 use Rattle.sand_shared.specs.Events.{base_of, follows, parent, child, joined}
-use Rattle.sand_shared.proofs.GrainsAtSite.{toppled_from, toppled_before}
-use Rattle.sand_shared.proofs.OneHolder.{toppled_outside}
+use Rattle.sand_shared.proofs.GrainsAtSite.{toppled_from, toppled_before, toppled_outside}
 
 -- its rows begin at b, or it has none
 abbrev pub BeginsAt : View → ℕ → Type 0
@@ -23,16 +22,11 @@ pub none_toppled : (v : View) (i : ℕ) → length v.counts ≡ 0 → toppled_by
 none_toppled v i e = toppled_outside v i (none_held v i e)
 
 toppled_past : (v : View) (b i : ℕ) → BeginsAt v b → b ≤ i → toppled_by v i ≡ slice_index v.counts (i - b)
-toppled_past v b i begins le = ⊎_elim
-    (λ (none : length v.counts ≡ 0).
-    none_toppled v i none ∙ sym (get_or-eq_default v.counts 0 {n = i - b} (omega arith)))
-    (λ (e : v.base ≡ b). toppled_from v i (omega arith) ∙ ap (λ z. slice_index v.counts (i - z)) e)
-    begins
+toppled_past v b i begins le =
+    let none = get_or-eq_default v.counts 0 {n = i - b} in grind (arith, nat_tests, none_toppled v i, none)
 
 toppled_not_yet : (v : View) (b i : ℕ) → BeginsAt v b → i < b → toppled_by v i ≡ 0
-toppled_not_yet v b i begins lt = ⊎_elim
-    (λ (none : length v.counts ≡ 0). none_toppled v i none)
-    (λ (e : v.base ≡ b). toppled_before v i (omega arith)) begins
+toppled_not_yet v b i begins lt = grind (arith, nat_tests, none_toppled v i)
 
 held_in : (v : View) (b i : ℕ) → BeginsAt v b → holds_site v i ≡ (leb b i && ltb i (b + length v.counts))
 held_in v b i begins = grind (arith, nat_tests)
@@ -61,29 +55,21 @@ module _ (x y z : View) (parts : AreParts x y z) (i : ℕ) where
   pub parts_toppled : toppled_by x i + toppled_by y i ≡ toppled_by z i
   parts_toppled =
       let m = z.base + length x.counts in
-      ⊎_elim
-      (λ (before : i < z.base).
-      let a = toppled_not_yet x z.base i parts.first before in
-      let b = toppled_not_yet y m i parts.second (omega arith) in
-      let c = toppled_before z i before in omega arith)
-      (λ (past : z.base ≤ i).
-      let a = toppled_past x z.base i parts.first past in
-      let c = toppled_from z i past in
-      ⊎_elim
-      (λ (lower : i < m).
-      let b = toppled_not_yet y m i parts.second lower in
-      let d = parts.low (i - z.base) (omega arith) in omega arith)
-      (λ (upper : m ≤ i).
-      let b = toppled_past y m i parts.second upper in
-      let d = parts.high (i - m) in
-      let e = get_or-eq_default x.counts 0 {n = i - z.base} (omega arith) in
-      let f = ap (slice_index z.counts) {x = length x.counts + (i - m)} {y = i - z.base} (omega arith) in omega arith)
-      (cases_lt i m))
-      (cases_lt i z.base)
+      let early = toppled_not_yet x z.base i parts.first in
+      let past = toppled_past x z.base i parts.first in
+      let lower = toppled_not_yet y m i parts.second in
+      let upper = toppled_past y m i parts.second in
+      let before = toppled_before z i in
+      let from = toppled_from z i in
+      let low = parts.low (i - z.base) in
+      let high = parts.high (i - m) in
+      let behind = get_or-eq_default x.counts 0 {n = i - z.base} in
+      let same = λ (le : m ≤ i).
+      ap (slice_index z.counts) {x = length x.counts + (i - m)} {y = i - z.base} (omega arith) in
+      grind (arith, nat_tests, early, past, lower, upper, before, from, low, high, behind, same)
 
 begins_based : (v : View) (b : ℕ) → v.base ≡ base_of b v.counts → BeginsAt v b
-begins_based v b e = ⊎_elim inl (λ (some : length v.counts ≡ 0 → ⊥). inr (grind (arith, nat_tests)))
-    (cases_eq (length v.counts) 0)
+begins_based v b e = grind (arith, nat_tests)
 
 -- what a pass keeps and what it gives away are the parts of what it had
 pub cut_parts : (v : View) (q n : ℕ) → n ≤ length v.counts → AreParts (parent v q n) (child v q n) v
@@ -105,18 +91,12 @@ append_parts v w z next base counts =
     let same = ap (λ (l : List ℕ). get_or l) counts in
     record {
       first = inr (sym base);
-      second = ⊎_elim
-          (λ (none : length w.counts ≡ 0). inl none)
-          (λ (some : length w.counts ≡ 0 → ⊥). inr (behind some ∙ ap (λ b. b + length v.counts) (sym base)))
-          (cases_eq (length w.counts) 0);
+      second = grind (arith, nat_tests, next, base);
       len = sym (ap length counts ∙ length-append v.counts w.counts);
       low = λ k l. sym (get_or_append_left v.counts w.counts 0 k l) ∙ ap (λ (l : List ℕ). get_or l k 0) (sym counts);
       high = λ k. sym (get_or-append-add v.counts w.counts k 0)
           ∙ ap (λ (l : List ℕ). get_or l (length v.counts + k) 0) (sym counts);
     }
-  where
-    behind : (length w.counts ≡ 0 → ⊥) → w.base ≡ v.base + length v.counts
-    behind some = grind (arith, nat_tests)
 
 -- the rows of two passes that touch are those of the joined pass
 pub record AddRows (v w z : View) (i : ℕ) : Type 0 where

@@ -1,10 +1,13 @@
--- A sweep site by site: the counts with which it comes to a site, and how often the site may then topple.
-use Rattle.std.proofs.Common.{◌≡◌, ℕ, zero, suc, ◌+◌, ◌-◌, ◌*◌, ◌<◌, ◌≤◌, List, [], ◌∷◌, ◌++◌, length, set, get_or, take, drop, sym, refl, ap, ◌∙◌, subst, ⊎_elim, arith}
+-- A sweep site by site: the counts with which it comes to a site, and how often the site may then topple. So the sweep
+-- of a whole pass is determined: what each site finds depends only on the sites before it.
+use Rattle.std.proofs.Common.{◌≡◌, ℕ, zero, suc, ◌+◌, ◌-◌, ◌*◌, ◌<◌, ◌≤◌, List, [], ◌∷◌, ◌++◌, length, set, get_or, take, drop, sym, refl, ap, ◌∙◌, subst, ⊎_elim, arith, sum}
 use Rattle.std.proofs.lemmas.Bool.{cases_eq}
-use Rattle.std.proofs.lemmas.List.{get_or-set_same, get_or-set_other, take-set-le}
+use Rattle.std.proofs.lemmas.List.{get_or-set_same, get_or-set_other, take-set-le, take_more_same, take_all}
 use Rattle.sand_shared.specs.declared.view.View.{View}
 use Rattle.sand_shared.specs.declared.view.Terms.{Terms}
-use Rattle.sand_shared.specs.Sweeps.{LeavesAtMost, LeavesAtLeast, with_counts, TopplesInTurn}
+use Rattle.sand_shared.specs.Sweeps.{LeavesAtMost, LeavesAtLeast, with_counts, TopplesInTurn, coming_to, SweptRows, SweptAll}
+use Rattle.sand_shared.specs.Laws.{OneSweep}
+use Rattle.sand_shared.specs.Passes.{at_rest}
 
 same_behind : (xs ys : List ℕ) (k : ℕ) → length xs ≡ length ys → ((j : ℕ) → k ≤ j → get_or xs j 0 ≡ get_or ys j 0)
     → take k xs ++ drop k ys ≡ xs
@@ -66,3 +69,41 @@ module _ (t : Terms) (v : View) (cs : List ℕ) (k times : ℕ) (inside : k < le
       (λ (e : j ≡ k). subst (TopplesInTurn t v (set cs k (get_or cs k 0 + times))) (sym e) (here least most))
       (λ (ne : j ≡ k → ⊥). before j (omega arith) (all j (omega arith)))
       (cases_eq j k)
+
+-- the grains on a site allow only one number of topplings
+at_most_allowed : (t : Terms) (u : View) (i a b : ℕ) → LeavesAtLeast t u i (4 * a) → LeavesAtMost t u i (4 * b + 3)
+    → a ≤ b
+at_most_allowed t u i a b least most = omega arith
+
+module _ (t : Terms) (v : View) (cs ds : List ℕ) (m n : ℕ)
+    (s : SweptRows t v cs m) (r : SweptRows t v ds n) (s' : SweptAll t v cs m)
+    (r' : SweptAll t v ds n) where
+  same_count : (j : ℕ) → j < length v.counts → take j cs ≡ take j ds → get_or cs j 0 ≡ get_or ds j 0
+  same_count j l so_far =
+      let rose = get_or ds j 0 - get_or v.counts j 0 in
+      let a = s'.in_turn j l in
+      let b = subst (λ p. LeavesAtLeast t (with_counts v (p ++ drop j v.counts)) (v.base + j) (4 * rose)
+      × LeavesAtMost t (with_counts v (p ++ drop j v.counts)) (v.base + j) (4 * rose + 3))
+      (sym so_far) (r'.in_turn j l) in
+      let up = at_most_allowed t (coming_to v cs j) (v.base + j) (get_or cs j 0 - get_or v.counts j 0) rose a.0 b.1 in
+      let down = at_most_allowed t (coming_to v cs j) (v.base + j) rose (get_or cs j 0 - get_or v.counts j 0) b.0 a.1 in
+      omega (arith, s.never_fall j, r.never_fall j)
+
+  same_so_far : (k : ℕ) → k ≤ length v.counts → take k cs ≡ take k ds
+  same_so_far zero l = refl
+  same_so_far (suc k) l =
+      let before = same_so_far k (omega arith) in
+      let here = same_count k (omega arith) before in
+      subst (λ z. take z cs ≡ take z ds) {x = k + 1} {y = suc k} (omega arith)
+      (take_more_same cs ds k 0 (omega arith) (omega arith) before here)
+
+  same_sweep : (cs ≡ ds) × (m ≡ n)
+  same_sweep =
+      let k = length v.counts in
+      let same : cs ≡ ds =
+      sym (take_all k cs (omega arith)) ∙ (same_so_far k (omega arith) ∙ take_all k ds (omega arith)) in
+      let sums = ap sum same in
+      (same, omega arith)
+
+pub one_sweep : OneSweep
+one_sweep t p cs ds m n whole s r = same_sweep t (at_rest p) cs ds m n s.rows r.rows (s.whole whole) (r.whole whole)

@@ -22,9 +22,7 @@ module _ {key : Terms} {lattice : Grid} {inside now : SharedView}
   key_now = words.key_is ∙ ap (λ (w : SharedView). w.terms) is
 
   pub has_word : (word : ℕ) → word < sites (grid_of_terms now.terms) + 2 → word < inside.table.words
-  has_word word fits =
-      let wide = words.wide ∙ ap (λ (w : SharedView). sites (grid_of_terms w.terms) + 2) is in
-      omega arith
+  has_word word fits = omega (arith, words.wide ∙ ap (λ (w : SharedView). sites (grid_of_terms w.terms) + 2) is)
 
   module _ {seat : Seat ℕ View} (at : IsSeatAt now seat) where
     pub at_table : seat.table_id ≡ inside.table

@@ -1,6 +1,7 @@
 -- A sweep, site by site.
 use Rattle.std.proofs.Common.{◌≡◌, ℕ, ◌+◌, ◌-◌, ◌*◌, ◌^◌, ◌<◌, ◌≤◌, ◌≢◌, List, length, set, get_or, leb, ltb, sum, sym, refl, ap, ◌∙◌, subst, ⊎_elim, arith}
 use Rattle.std.specs.Prelude.{slice_index, ◌&&◌}
+use Rattle.std.proofs.lemmas.Bool.Decides.{nat_tests}
 use Rattle.std.proofs.lemmas.Bool.{cases_eq}
 use Rattle.std.proofs.lemmas.List.{nil_from_length, length-set, get_or-set_same, get_or-set_other}
 use Rattle.std.proofs.lemmas.List.Sums.{sum_by-set}
@@ -16,11 +17,10 @@ use Rattle.sand_shared.specs.Passes.{PassView, at_rest}
 use Rattle.sand_shared.specs.Rows.{count_of}
 use Rattle.sand_shared.specs.Seats.{HasAll}
 use Rattle.sand_shared.specs.Sweeps.{LeavesAtMost, LeavesAtLeast, IsCalm, IsSparing, with_counts, SweptRows, SweptAll, Swept}
-use Rattle.sand_shared.proofs.GrainsAtSite.{place_inside, toppled_from, toppled_before}
+use Rattle.sand_shared.proofs.GrainsAtSite.{place_inside, toppled_from}
 use Rattle.sand_shared.proofs.RowPartsAddUp.{none_toppled}
 use Rattle.sand_shared.proofs.SitesInTurn.{AllInTurn, one_in_turn}
 use Rattle.sand_shared.proofs.WholeHasAll.{swept_has_all}
-use Rattle.std.proofs.lemmas.Bool.{cases_lt}
 
 -- the first k sites of a pass have been swept
 pub record Sweeps (t : Terms) (v : View) (cs : List ℕ) (k topplings : ℕ) : Type 0 where
@@ -43,15 +43,7 @@ toppled-row v k = toppled_from v (v.base + k) (omega arith)
 -- higher counts mean no fewer topplings
 toppled_more : (v : View) (cs : List ℕ) → ((j : ℕ) → slice_index v.counts j ≤ slice_index cs j) → (i : ℕ)
     → toppled_by v i ≤ toppled_by (with_counts v cs) i
-toppled_more v cs more i = ⊎_elim
-    (λ (early : i < v.base).
-    let a = toppled_before v i early in let b = toppled_before (with_counts v cs) i early in omega arith)
-    (λ (past : v.base ≤ i).
-    let a = toppled_from v i past in
-    let b = toppled_from (with_counts v cs) i past in
-    let m = more (i - v.base) in
-    omega arith)
-    (cases_lt i v.base)
+toppled_more v cs more i = grind (arith, nat_tests, more (i - v.base))
 
 -- the counts only rose, so the bound held before
 at_most_before : (t : Terms) (v : View) (cs : List ℕ) (i n : ℕ)
@@ -100,13 +92,9 @@ module _ {t : Terms} {new : View} {spot least times : ℕ} (v : View) (cs : List
         risen = omega arith;
         never_fall = λ j. (let g = s.never_fall j in let m = more j in omega arith);
         rest = λ j le. old j (λ e. absurd (omega arith)) ∙ s.rest j (omega arith);
-        enough = λ j l. ⊎_elim
-            (λ (e : j ≡ k).
+        enough = λ j l.
             let low = at_most_before t v cs (v.base + k) (4 * times + 3) (omega arith) s.never_fall here did.enough in
-            subst (λ z. LeavesAtMost t v (v.base + z) (4 * (get_or ds z 0 - get_or v.counts z 0) + 3)) (sym e) (omega arith))
-            (λ (ne : j ≡ k → ⊥). subst (λ z. LeavesAtMost t v (v.base + j) (4 * (z - get_or v.counts j 0) + 3))
-            (sym (old j ne)) (s.enough j (omega arith)))
-            (cases_eq j k);
+            grind (arith, new_here, was, old j, low, s.enough j);
         idle = λ z.
             let none : times ≡ 0 = omega arith in
             ap (set cs k) {x = n + times} {y = n} (omega arith) ∙ (set-get_or cs k 0 ∙ s.idle (omega arith));
@@ -167,10 +155,7 @@ module _ {t : Terms} {v : View} {cs : List ℕ} {topplings : ℕ} (s : Sweeps t 
   }
 
   pub sweeps_few : sum cs < 2 ^ 54
-  sweeps_few = ⊎_elim
-      (λ (e : length v.counts ≡ 0). let z = none e in omega arith)
-      (λ (some : length v.counts ≡ 0 → ⊥). s.bound (omega arith))
-      (cases_eq (length v.counts) 0)
+  sweeps_few = grind (arith, none, s.bound)
 
 -- what a seat has swept, its pass has swept: a sweep does not depend on what the seat knows of heights
 module _ (t : Terms) (p : PassView) (cs : List ℕ) (topplings spot least : ℕ) where

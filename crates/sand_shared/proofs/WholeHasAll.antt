@@ -1,12 +1,12 @@
 -- A whole pass holds all sites.
-use Rattle.std.proofs.Common.{◌≡◌, ℕ, ◌+◌, ◌-◌, ◌*◌, ◌<◌, List, true, leb, ltb, length, ap, ◌∙◌, arith}
+use Rattle.std.proofs.Common.{◌≡◌, ℕ, ◌+◌, ◌-◌, ◌*◌, List, leb, ltb, length, ap, ◌∙◌, arith}
 use Rattle.std.specs.Prelude.{◌&&◌}
 use Rattle.std.proofs.Math.Nat.{mul_comm}
 use Rattle.std.proofs.lemmas.Bool.Decides.{nat_tests}
 use Rattle.sand_model.specs.Grid.{sites}
 use Rattle.sand_shared.specs.declared.rows.Rows.{Rows}
 use Rattle.sand_shared.specs.declared.view.Terms.{Terms}
-use Rattle.sand_shared.specs.OpenPile.{grid_of_terms, holds_site}
+use Rattle.sand_shared.specs.OpenPile.{grid_of_terms}
 use Rattle.sand_shared.specs.Passes.{PassView, at_rest, IsWhole}
 use Rattle.sand_shared.specs.Rows.{count_of}
 use Rattle.sand_shared.specs.Seats.{HasAll}
@@ -26,11 +26,7 @@ module _ (t : Terms) (p : PassView) (same : p.grid ≡ grid_of_terms t)
   whole_has_all =
       let base = whole_base in
       let all = whole_counts in
-      record { quota = omega arith; all_sites = λ i l. held base all i l }
-    where
-      held : (at_rest p).base ≡ 0 → length p.counts ≡ sites (grid_of_terms t) → (i : ℕ) → i < sites (grid_of_terms t)
-          → holds_site (at_rest p) i ≡ true
-      held base all i l = grind (arith, nat_tests)
+      record { quota = omega arith; all_sites = λ i l. grind (arith, nat_tests, base, all) }
 
   -- it still does after a sweep
   pub swept_has_all : (counts : List ℕ) (spot least : ℕ) → length counts ≡ length p.counts

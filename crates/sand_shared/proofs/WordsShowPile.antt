@@ -1,8 +1,8 @@
 -- After a step on one word, the words and the views show the open pile after the event.
-use Rattle.std.proofs.Common.{◌≡◌, ℕ, ◌+◌, ◌-◌, ◌*◌, ◌%◌, ◌^◌, ◌<◌, ◌≢◌, List, [], ◌∷◌, length, set, get_or, sym, refl, ap, ◌∙◌, ⊎_elim, arith, mod-eq_of_lt, length-append}
+use Rattle.std.proofs.Common.{◌≡◌, ℕ, ◌+◌, ◌-◌, ◌*◌, ◌%◌, ◌^◌, ◌<◌, ◌≢◌, List, [], ◌∷◌, length, set, refl, ap, ◌∙◌, arith, mod-eq_of_lt, length-append}
+use Rattle.std.proofs.lemmas.Grind.{common_steps}
 use Rattle.std.specs.Prelude.{slice_index, count_by}
 use Rattle.std.proofs.Math.Nat.{add-mod_right}
-use Rattle.std.proofs.lemmas.Bool.{cases_eq}
 use Rattle.std.proofs.lemmas.List.{get_or-set_same, get_or-set_other, length-set}
 use Rattle.std.proofs.lemmas.List.Sums.{get_or-le-sum_by}
 use lib.Seq.{set-get_or}
@@ -70,12 +70,7 @@ shows_height : (t : Terms) (p q : OpenPile) (s : State ℕ View) (a i x : ℕ)
 shows_height t p q s a i x inside h draws passes here others = record {
   wide = length-set s.words (i + 2) x ∙ h.wide;
   number = get_or-set_other s.words (i + 2) 1 x 0 (λ e. absurd (omega arith)) ∙ h.number ∙ draws;
-  heights = λ j l. ⊎_elim
-      (λ (e : i ≡ j). ap (λ z. get_or (set s.words (i + 2) x) (z + 2) 0) (sym e)
-      ∙ (get_or-set_same s.words (i + 2) x 0 (omega arith) ∙ (sym here ∙ ap q.height e)))
-      (λ (ne : i ≡ j → ⊥).
-      get_or-set_other s.words (i + 2) (j + 2) x 0 (λ e. ne (omega arith)) ∙ (h.heights j l ∙ sym (others j ne)))
-      (cases_eq i j);
+  heights = λ j l. (let long = h.wide in grind (arith, common_steps, long, here, others j, h.heights j l));
   passes = passes;
 }
 

@@ -63,9 +63,13 @@ impl SharedPile {
         ensures pass_back { IfErr result (λ e. e.2 ≡ pass) }
         ensures closed { IfOk result (IsRecordOf self.terms pass) }
     {
-        let (history, heights) = match self.room_for_record(alloc, &pass) {
-            Ok(room) => room,
+        let history = match self.room_for_history(alloc, &pass) {
+            Ok(history) => history,
             Err(fault) => return Err((fault, self, pass)),
+        };
+        let heights = match Vec::with_capacity(alloc, pass.bare.counts.len()) {
+            Ok(heights) => heights,
+            Err(error) => return Err((error.into(), self, pass)),
         };
         let Pass { bare, receipts } = pass;
         Ok(self.topple_out(bare, receipts.as_slice(), history, heights))
@@ -85,25 +89,7 @@ impl SharedPile {
         if !self.is_whole(pass) {
             return Err(CloseFault::Missing);
         }
-        let history = vec![in alloc; 0usize; pass.receipts.len()]?;
-        Ok(history)
-    }
-
-    // Lists with room for the history and the heights of a record, if the pass is whole.
-    fn room_for_record(
-        &self,
-        alloc: Global,
-        pass: &Pass,
-    ) -> Result<(Vec<usize>, Vec<u64>), CloseFault>
-        requires { IsPassOf self.now pass.now }
-        ensures missing { IfErr result (λ e. (e ≡ CloseFault.Missing) ↔ ¬ IsWhole self.now.terms pass.now) }
-        ensures whole { OnOk result (IsWhole self.now.terms pass.now) }
-        ensures history { IfOk result (λ r. length r.0.items ≡ length pass.now.receipts) }
-        ensures heights { IfOk result (λ r. (r.1.items ≡ []) × (length pass.now.counts ≤ vec_capacity r.1)) }
-    {
-        let history = self.room_for_history(alloc, pass)?;
-        let heights = Vec::with_capacity(alloc, pass.bare.counts.len())?;
-        Ok((history, heights))
+        Ok(vec![in alloc; 0usize; pass.receipts.len()]?)
     }
 
     // Sweeps until nothing topples, and writes the record into the given lists.
@@ -124,12 +110,8 @@ impl SharedPile {
         let SharedPile { words } = self;
         let BarePass {
             mut seat,
-            shape: _,
-            left: _,
-            seen: _,
-            made: _,
-            rows: _,
             mut counts,
+            ..
         } = pass;
         words.sweep_out(&mut seat, &mut counts);
         let Terms { start, quota: _ } = words.close(seat, &mut heights);

@@ -216,12 +216,8 @@ impl SharedPile {
         let SharedPile { words } = self;
         let BarePass {
             mut seat,
-            shape: _,
-            left: _,
-            seen: _,
-            made: _,
-            rows: _,
             counts,
+            ..
         } = pass;
         words.learn::<Brand>(&mut seat);
         let Terms { start, quota: _ } = words.end(seat);

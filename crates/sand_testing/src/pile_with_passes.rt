@@ -12,7 +12,7 @@ use crate::pairs::both_at_once;
 use crate::records::{is_record, is_settled};
 use crate::shared::{bare_of, drop_rest};
 use sand_model::{Pile, Shape};
-use sand_shared::{BarePass, Pass, Record, SharedPile, SiteCounts};
+use sand_shared::{BarePass, DropFault, Pass, Record, SharedPile, SiteCounts, SplitFault};
 use std::alloc::Global;
 use std::marker::Model;
 use std::thread::Threads;
@@ -80,29 +80,15 @@ pub enum Ending {
 
 pub const ENDINGS: [Ending; 2] = [Ending::Close, Ending::Settle];
 
-/// A start on a grid with open edges, and a quota.
+/// A start on a grid with open edges: its sides, its heights and a quota.
 #[derive(Clone, Copy)]
-pub struct Start<'a> {
-    pub sides: (usize, usize),
-    pub heights: &'a [u64],
-    pub quota: u64,
-}
+pub struct Start<'a>(pub (usize, usize), pub &'a [u64], pub u64);
 
-/// The expected contents of a record.
+/// The expected contents of a record: its history, the heights, the odometer and the grains lost.
 #[derive(Clone, Copy)]
-pub struct Left<'a> {
-    pub history: &'a [usize],
-    pub heights: &'a [u64],
-    pub odometer: &'a [u64],
-    pub lost: u64,
-}
+pub struct Left<'a>(pub &'a [usize], pub &'a [u64], pub &'a [u64], pub u64);
 
-const NOTHING: Left<'static> = Left {
-    history: &[],
-    heights: &[],
-    odometer: &[],
-    lost: 0,
-};
+const NOTHING: Left<'static> = Left(&[], &[], &[], 0);
 
 // Whether a site is in the grid, if there is one.
 fn is_inside(shape: Shape, site: Option<usize>) -> bool
@@ -179,6 +165,30 @@ fn put_bare(_pile: &SharedPile, passes: &mut Vec<BarePass>, pass: BarePass)
     let _ = passes.push(pass);
 }
 
+// Appends a child to a list of passes.
+fn appended(pile: &SharedPile, passes: &mut Vec<Pass>, child: Result<Pass, SplitFault>) -> Returned
+    requires passes { All (IsPassOf pile.now) passes.old.items }
+    requires child { IfOk child (IsPassOf pile.now) }
+    ensures { All (IsPassOf pile.now) passes.new.items }
+{
+    match child {
+        Ok(child) => {
+            let end = passes.len();
+            put(pile, passes, end, child);
+            Returned::Done
+        }
+        Err(fault) => Returned::Fault(fault.number()),
+    }
+}
+
+// The number of a drop, or the fault.
+fn dropped(number: Result<u64, DropFault>) -> Returned {
+    match number {
+        Ok(number) => Returned::Number(number),
+        Err(fault) => Returned::Fault(fault.number()),
+    }
+}
+
 // More passes than a test has, so that a list of passes does not grow.
 const ROOM: usize = 8;
 
@@ -244,10 +254,9 @@ impl PileWithPasses {
         start: Start<'_>,
         calls: &[(Call, Returned)],
     ) -> Option<PileWithPasses> {
-        let (width, height) = start.sides;
-        let shape = Shape::new(width, height).ok()?;
-        let heights = Pile::new(alloc, shape, start.heights).ok()?;
-        let pile = PileWithPasses::of_start(alloc, &heights, start.quota).ok();
+        let Start((width, height), heights, quota) = start;
+        let heights = Pile::new(alloc, Shape::new(width, height).ok()?, heights).ok()?;
+        let pile = PileWithPasses::of_start(alloc, &heights, quota).ok();
         drop(heights);
         pile?.play(alloc, calls)
     }
@@ -264,7 +273,7 @@ impl PileWithPasses {
     }
 
     pub fn call(&mut self, alloc: Global, call: Call) -> Returned {
-        match call {
+        let returned = match call {
             Call::DropAt(pass, site) => self.drop_at(pass, site),
             Call::DropRest(pass, site) => self.drop_rest(pass, site),
             Call::DropAll(pass, list) => self.drop_all(pass, list),
@@ -282,107 +291,77 @@ impl PileWithPasses {
             Call::Rows(pass) => self.rows(pass),
             Call::Receipt(pass, place) => self.receipt(pass, place),
             Call::Toppled(pass, site) => self.toppled(pass, site),
-        }
-    }
-
-    fn drop_at(&mut self, pass: usize, site: usize) -> Returned {
-        if pass >= self.passes.len() || site >= self.shape.sites() {
-            return Returned::NoSuch;
-        }
-        match self.pile.drop_at(&mut self.passes[pass], site) {
-            Ok(number) => Returned::Number(number),
-            Err(fault) => Returned::Fault(fault.number()),
-        }
-    }
-
-    fn drop_rest(&mut self, pass: usize, site: usize) -> Returned {
-        if pass >= self.passes.len() || site >= self.shape.sites() {
-            return Returned::NoSuch;
-        }
-        drop_rest(&self.pile, &mut self.passes[pass], site);
-        Returned::Done
-    }
-
-    fn drop_all(&mut self, pass: usize, list: &[usize]) -> Returned {
-        if pass >= self.passes.len() || !are_inside(self.shape, list) {
-            return Returned::NoSuch;
-        }
-        match self
-            .pile
-            .drop_all(&mut self.passes[pass], list, &mut self.counts)
-        {
-            Ok(number) => Returned::Number(number),
-            Err(fault) => Returned::Fault(fault.number()),
-        }
-    }
-
-    fn tally(&mut self, pass: usize) -> Returned {
-        if pass >= self.passes.len() {
-            return Returned::NoSuch;
-        }
-        Returned::Number(self.pile.tally(&mut self.passes[pass]))
-    }
-
-    fn sweep(&mut self, pass: usize) -> Returned {
-        if pass >= self.passes.len() {
-            return Returned::NoSuch;
-        }
-        Returned::Number(self.pile.sweep(&mut self.passes[pass]))
-    }
-
-    fn split(&mut self, alloc: Global, pass: usize, quota: u64) -> Returned {
-        if pass >= self.passes.len() {
-            return Returned::NoSuch;
-        }
-        match self.pile.split(alloc, &mut self.passes[pass], quota) {
-            Ok(child) => {
-                let end = self.passes.len();
-                put(&self.pile, &mut self.passes, end, child);
-                Returned::Done
-            }
-            Err(fault) => Returned::Fault(fault.number()),
-        }
-    }
-
-    fn split_rows(&mut self, alloc: Global, pass: usize, rows: u16) -> Returned {
-        if pass >= self.passes.len() {
-            return Returned::NoSuch;
-        }
-        match self.pile.split_rows(alloc, &mut self.passes[pass], rows) {
-            Ok(child) => {
-                let end = self.passes.len();
-                put(&self.pile, &mut self.passes, end, child);
-                Returned::Done
-            }
-            Err(fault) => Returned::Fault(fault.number()),
-        }
-    }
-
-    fn join(&mut self, alloc: Global, pass: usize, other: usize) -> Returned {
-        if pass == other {
-            return Returned::NoSuch;
-        }
-        let Some(second) = take(&self.pile, &mut self.passes, other) else {
-            return Returned::NoSuch;
         };
+        returned.unwrap_or(Returned::NoSuch)
+    }
+
+    fn drop_at(&mut self, pass: usize, site: usize) -> Option<Returned> {
+        if site >= self.shape.sites() {
+            return None;
+        }
+        let pass = self.passes.get_mut(pass)?;
+        Some(dropped(self.pile.drop_at(pass, site)))
+    }
+
+    fn drop_rest(&mut self, pass: usize, site: usize) -> Option<Returned> {
+        if site >= self.shape.sites() {
+            return None;
+        }
+        drop_rest(&self.pile, self.passes.get_mut(pass)?, site);
+        Some(Returned::Done)
+    }
+
+    fn drop_all(&mut self, pass: usize, list: &[usize]) -> Option<Returned> {
+        if !are_inside(self.shape, list) {
+            return None;
+        }
+        let pass = self.passes.get_mut(pass)?;
+        Some(dropped(self.pile.drop_all(pass, list, &mut self.counts)))
+    }
+
+    fn tally(&mut self, pass: usize) -> Option<Returned> {
+        let tally = self.pile.tally(self.passes.get_mut(pass)?);
+        Some(Returned::Number(tally))
+    }
+
+    fn sweep(&mut self, pass: usize) -> Option<Returned> {
+        let toppled = self.pile.sweep(self.passes.get_mut(pass)?);
+        Some(Returned::Number(toppled))
+    }
+
+    fn split(&mut self, alloc: Global, pass: usize, quota: u64) -> Option<Returned> {
+        let pass = self.passes.get_mut(pass)?;
+        let child = self.pile.split(alloc, pass, quota);
+        Some(appended(&self.pile, &mut self.passes, child))
+    }
+
+    fn split_rows(&mut self, alloc: Global, pass: usize, rows: u16) -> Option<Returned> {
+        let pass = self.passes.get_mut(pass)?;
+        let child = self.pile.split_rows(alloc, pass, rows);
+        Some(appended(&self.pile, &mut self.passes, child))
+    }
+
+    fn join(&mut self, alloc: Global, pass: usize, other: usize) -> Option<Returned> {
+        if pass == other {
+            return None;
+        }
+        let second = take(&self.pile, &mut self.passes, other)?;
         let place = pass.saturating_sub(usize::from(other < pass));
         let Some(mut first) = take(&self.pile, &mut self.passes, place) else {
             drop(second);
-            return Returned::NoSuch;
+            return None;
         };
         let refused = self.pile.join(alloc, &mut first, second).err();
         put(&self.pile, &mut self.passes, place, first);
         let Some((fault, second)) = refused else {
-            return Returned::Done;
+            return Some(Returned::Done);
         };
         put(&self.pile, &mut self.passes, other, second);
-        Returned::Fault(fault.number())
+        Some(Returned::Fault(fault.number()))
     }
 
-    fn join_all(&mut self, alloc: Global, pass: usize) -> Returned {
-        let Some(mut first) = take(&self.pile, &mut self.passes, pass) else {
-            return Returned::NoSuch;
-        };
+    fn join_all(&mut self, alloc: Global, pass: usize) -> Option<Returned> {
+        let mut first = take(&self.pile, &mut self.passes, pass)?;
         std::mem::swap(&mut self.passes, &mut self.spare);
         let others = std::mem::replace(&mut self.spare, Vec::new(alloc));
         let returned = match self.pile.join_all(alloc, &mut first, others) {
@@ -394,91 +373,64 @@ impl PileWithPasses {
         };
         let place = pass.min(self.passes.len());
         put(&self.pile, &mut self.passes, place, first);
-        returned
+        Some(returned)
     }
 
-    fn throw_away(&mut self, pass: usize) -> Returned {
-        match take(&self.pile, &mut self.passes, pass) {
-            Some(pass) => {
-                drop(pass);
-                Returned::Done
-            }
-            None => Returned::NoSuch,
-        }
+    fn throw_away(&mut self, pass: usize) -> Option<Returned> {
+        drop(take(&self.pile, &mut self.passes, pass)?);
+        Some(Returned::Done)
     }
 
-    fn into_bare(&mut self, pass: usize) -> Returned {
-        let Some(pass) = take(&self.pile, &mut self.passes, pass) else {
-            return Returned::NoSuch;
-        };
+    fn into_bare(&mut self, pass: usize) -> Option<Returned> {
+        let pass = take(&self.pile, &mut self.passes, pass)?;
         put_bare(&self.pile, &mut self.bare, bare_of(pass));
-        Returned::Done
+        Some(Returned::Done)
     }
 
-    fn join_bare(&mut self, alloc: Global) -> Returned {
-        let Some(other) = take_bare(&self.pile, &mut self.bare) else {
-            return Returned::NoSuch;
-        };
+    fn join_bare(&mut self, alloc: Global) -> Option<Returned> {
+        let other = take_bare(&self.pile, &mut self.bare)?;
         let Some(mut last) = take_bare(&self.pile, &mut self.bare) else {
             drop(other);
-            return Returned::NoSuch;
+            return None;
         };
         let refused = self.pile.join_bare(alloc, &mut last, other).err();
         put_bare(&self.pile, &mut self.bare, last);
         let Some((fault, other)) = refused else {
-            return Returned::Done;
+            return Some(Returned::Done);
         };
         put_bare(&self.pile, &mut self.bare, other);
-        Returned::Fault(fault.number())
+        Some(Returned::Fault(fault.number()))
     }
 
-    fn counts(&self, pass: usize) -> Returned {
-        match self.passes.get(pass) {
-            Some(pass) => Returned::Has(pass.left(), pass.receipts().len(), pass.seen()),
-            None => Returned::NoSuch,
-        }
+    fn counts(&self, pass: usize) -> Option<Returned> {
+        let pass = self.passes.get(pass)?;
+        Some(Returned::Has(pass.left(), pass.receipts().len(), pass.seen()))
     }
 
-    fn is_whole(&self, pass: usize) -> Returned {
-        if pass >= self.passes.len() {
-            return Returned::NoSuch;
-        }
-        Returned::Is(self.pile.is_whole(&self.passes[pass]))
+    fn is_whole(&self, pass: usize) -> Option<Returned> {
+        let is_whole = self.pile.is_whole(self.passes.get(pass)?);
+        Some(Returned::Is(is_whole))
     }
 
-    fn rows(&self, pass: usize) -> Returned {
-        match self.passes.get(pass) {
-            Some(pass) => {
-                let (first, end) = pass.rows();
-                Returned::Between(first, end)
-            }
-            None => Returned::NoSuch,
-        }
+    fn rows(&self, pass: usize) -> Option<Returned> {
+        let (first, end) = self.passes.get(pass)?.rows();
+        Some(Returned::Between(first, end))
     }
 
-    fn receipt(&self, pass: usize, place: usize) -> Returned {
-        let Some(pass) = self.passes.get(pass) else {
-            return Returned::NoSuch;
-        };
-        match pass.receipts().get(place) {
-            Some(receipt) => Returned::Dropped(receipt.number, receipt.site),
-            None => Returned::NoSuch,
-        }
+    fn receipt(&self, pass: usize, place: usize) -> Option<Returned> {
+        let receipt = self.passes.get(pass)?.receipts().get(place)?;
+        Some(Returned::Dropped(receipt.number, receipt.site))
     }
 
-    fn toppled(&self, pass: usize, site: usize) -> Returned {
-        let Some(pass) = self.passes.get(pass) else {
-            return Returned::NoSuch;
-        };
+    fn toppled(&self, pass: usize, site: usize) -> Option<Returned> {
+        let pass = self.passes.get(pass)?;
         if site >= self.shape.sites() {
-            return Returned::NoSuch;
+            return None;
         }
         let (first, end) = pass.rows();
         let (_, row) = self.shape.place(site);
-        if row < usize::from(first) || row >= usize::from(end) {
-            return Returned::NoSuch;
-        }
-        Returned::Number(pass.toppled(site))
+        let is_held = row >= usize::from(first) && row < usize::from(end);
+        is_held.then(|| Returned::Number(pass.toppled(site)))
     }
 
     pub fn number(&self, pass: usize, place: usize) -> Option<u64> {
@@ -486,12 +438,9 @@ impl PileWithPasses {
     }
 
     /// The number of receipts with this number.
-    pub fn receipts_with(&self, pass: usize, number: u64) -> usize {
-        let Some(pass) = self.passes.get(pass) else {
-            return 0;
-        };
-        let receipts = pass.receipts().iter();
-        receipts.filter(|receipt| receipt.number == number).count()
+    pub fn receipts_with(&self, pass: usize, number: u64) -> Option<usize> {
+        let receipts = self.passes.get(pass)?.receipts().iter();
+        Some(receipts.filter(|receipt| receipt.number == number).count())
     }
 
     /// Runs its two passes on two threads that meet: each makes all remaining drops at its site, or sweeps if it has
@@ -527,34 +476,18 @@ impl PileWithPasses {
         let Some(first) = take(&self.pile, &mut self.passes, 0) else {
             return Err((0, self));
         };
-        let PileWithPasses {
-            shape,
-            pile,
-            mut passes,
-            spare,
-            bare,
-            counts,
-        } = self;
         let ended = match ending {
-            Ending::Close => pile.close(alloc, first),
-            _ => pile.settle(alloc, first),
+            Ending::Close => self.pile.close(alloc, first),
+            _ => self.pile.settle(alloc, first),
         };
         match ended {
             Ok(record) => {
-                drop((passes, spare, bare, counts));
+                drop((self.passes, self.spare, self.bare, self.counts));
                 Ok(record)
             }
             Err((fault, pile, first)) => {
-                put(&pile, &mut passes, 0, first);
-                let pile = PileWithPasses {
-                    shape,
-                    pile,
-                    passes,
-                    spare,
-                    bare,
-                    counts,
-                };
-                Err((fault.number(), pile))
+                put(&pile, &mut self.passes, 0, first);
+                Err((fault.number(), PileWithPasses { pile, ..self }))
             }
         }
     }
@@ -564,14 +497,10 @@ impl PileWithPasses {
         let Some(last) = self.bare.len().checked_sub(1) else {
             return Ok(false);
         };
-        match self.pile.settle_rest(alloc, &mut self.bare[last]) {
-            Ok(rest) => {
-                let is_right = is_settled(&rest, left.heights, left.odometer, left.lost);
-                drop(rest);
-                Ok(is_right)
-            }
-            Err(fault) => Err(fault.number()),
-        }
+        let rest = self.pile.settle_rest(alloc, &mut self.bare[last]);
+        let Left(_, heights, odometer, lost) = left;
+        rest.map(|rest| is_settled(&rest, heights, odometer, lost))
+            .map_err(|fault| fault.number())
     }
 
     // Whether the record, made with the first pass, is as expected, or the number of the fault.
@@ -579,10 +508,10 @@ impl PileWithPasses {
         if self.passes.is_empty() {
             return Ok(false);
         }
-        match self.pile.record_now(alloc, &mut self.passes[0]) {
-            Ok(record) => Ok(is_left(record, left)),
-            Err(fault) => Err(fault.number()),
-        }
+        let record = self.pile.record_now(alloc, &mut self.passes[0]);
+        record
+            .map(|record| is_left(record, left))
+            .map_err(|fault| fault.number())
     }
 
     /// Ends the shared pile, and returns whether this has the expected result. If it fails, everything comes back, with
@@ -597,10 +526,8 @@ impl PileWithPasses {
             Ending::RecordNow => self.record_now(alloc, left),
             Ending::SettleRest => self.settle_rest(alloc, left),
             _ => {
-                return match self.record(alloc, ending) {
-                    Ok(record) => Ok(is_left(record, left)),
-                    Err(back) => Err(back),
-                };
+                let record = self.record(alloc, ending);
+                return record.map(|record| is_left(record, left));
             }
         };
         match ended {
@@ -631,24 +558,13 @@ impl PileWithPasses {
 
     /// Whether this ending has this result.
     pub fn leaves(self, alloc: Global, ending: Ending, left: Left<'_>) -> bool {
-        match self.end(alloc, ending, left) {
-            Ok(is_right) => is_right,
-            Err(back) => {
-                drop(back);
-                false
-            }
-        }
+        self.end(alloc, ending, left).unwrap_or(false)
     }
 }
 
 fn is_left(record: Record, left: Left<'_>) -> bool {
-    let is_left = is_record(
-        &record,
-        left.history,
-        left.heights,
-        left.odometer,
-        left.lost,
-    );
+    let Left(history, heights, odometer, lost) = left;
+    let is_left = is_record(&record, history, heights, odometer, lost);
     drop(record);
     is_left
 }

@@ -20,6 +20,14 @@ pub const QUIET: Wish = Wish {
     observers: 0,
 };
 
+/// A wish of these fields; the others are those of `QUIET`.
+#[macro_export]
+macro_rules! wish {
+    ($($field:ident: $value:expr),*) => {
+        sand_lab::Wish { $($field: $value,)* ..$crate::runs::QUIET }
+    };
+}
+
 /// The report of a run into an album.
 pub fn run_into<R: Threads + Sync, G: Gate>(
     rt: &R,

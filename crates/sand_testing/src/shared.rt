@@ -1,37 +1,16 @@
 //! Shared piles of a few sites: made, dropped on and closed in one call each, because each call lengthens the proof of
 //! a test.
 
-ghost use Rattle.std.specs.Prelude.{◌≡◌, ◌<◌, length, IfOk};
+ghost use Rattle.std.specs.Prelude.{◌≡◌, ◌<◌, IfOk};
 ghost use Rattle.sand_model.specs.Grid.{sites};
 ghost use Rattle.sand_shared.specs.OpenPile.{grid_of_terms};
 ghost use Rattle.sand_shared.specs.Passes.{IsPassOf};
 
 use crate::piles::one_site;
-use sand_model::{Pile, Shape};
+use sand_model::Pile;
 use sand_shared::{BarePass, Pass, Record, SharedPile};
 use std::alloc::Global;
 use std::test::Fail;
-
-/// A shared pile on a grid with open edges, and its first pass.
-pub fn shared_pile(
-    alloc: Global,
-    width: usize,
-    height: usize,
-    heights: &[u64],
-    quota: u64,
-) -> Result<(SharedPile, Pass), Fail>
-    ensures of_pile { IfOk result (λ r. IsPassOf r.0 r.1) }
-    ensures len { IfOk result (λ r. sites (grid_of_terms r.0.terms) ≡ length heights.now) }
-{
-    let shape = Shape::new(width, height)?;
-    let start = Pile::new(alloc, shape, heights)?;
-    // `Pile::new` has rejected any other number of heights; this tells the prover.
-    if shape.sites() != heights.len() {
-        return Err("a height for each site".into());
-    }
-    let (pile, pass) = SharedPile::new(alloc, &start, quota)?;
-    Ok((pile, pass))
-}
 
 /// Makes all remaining drops of a pass at one site.
 pub fn drop_rest(pile: &SharedPile, pass: &mut Pass, site: usize)
@@ -49,14 +28,6 @@ pub fn bare_of(pass: Pass) -> BarePass
     ensures { result ≡ pass }
 {
     pass.into_bare().0
-}
-
-/// The record of a shared pile, closed with a pass that has gathered everything.
-pub fn closed(alloc: Global, pile: SharedPile, pass: Pass) -> Result<Record, Fail>
-    requires { IsPassOf pile pass }
-{
-    let record = pile.close(alloc, pass).ok().ok_or("close")?;
-    Ok(record)
 }
 
 /// The record of `drops` drops on the first site of a pile.

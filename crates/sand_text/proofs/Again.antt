@@ -1,5 +1,6 @@
 -- The written text of a pile is read as the same pile.
-use Rattle.std.proofs.Common.{◌≡◌, ℕ, zero, suc, ◌+◌, ◌*◌, ◌<◌, ◌≤◌, ◌^◌, List, [], ◌∷◌, ◌++◌, length, take, drop, None, decimal, refl, ◌∙◌, ap, arith, append_assoc, length-drop, zero-mul, suc-mul, mul_comm, ◌&&◌, ltb, eq-eqb, not, true, false, cond, eqb, sum, min, subst}
+use Rattle.std.proofs.lemmas.Grind.{pieces}
+use Rattle.std.proofs.Common.{◌≡◌, ℕ, zero, suc, ◌+◌, ◌*◌, ◌<◌, ◌≤◌, ◌^◌, List, [], ◌∷◌, ◌++◌, length, take, drop, None, decimal, refl, ◌∙◌, ap, arith, append_assoc, length-drop, zero-mul, suc-mul, mul_comm, ◌&&◌, ltb, eq-eqb, not, true, false, cond, eqb, min, subst}
 use Rattle.std.specs.Prelude.{Ok}
 use Rattle.std.specs.Bool.{if◌then◌else◌, ◌==◌}
 use Rattle.std.specs.List.{All}
@@ -9,10 +10,9 @@ use Rattle.std.proofs.lemmas.List.Elements.{All-tail, All-weaker}
 use Rattle.std.proofs.lemmas.List.Sums.{position_or_len_is, get_or-le-sum_by}
 use Rattle.std.proofs.lemmas.Fmt.{decimal_is_IsNumeral, decimal_nonempty}
 use Rattle.std.proofs.lemmas.Bool.Decides.{nat_tests}
-use Rattle.std.proofs.lemmas.Grind.{pieces}
 use Rattle.sand_model.specs.declared.shape.Edge.{Edge}
 use Rattle.sand_model.specs.declared.shape.Edge.TheVariants.{Open, Cylinder}
-use Rattle.sand_model.specs.Grid.{Grid, IsGrid, grid_with_edge, joins, is_side, sites}
+use Rattle.sand_model.specs.Grid.{Grid, IsGrid, grid_with_edge, joins}
 use Rattle.sand_model.specs.Piles.{PileView, IsPile, most_grains}
 use Rattle.sand_text.specs.declared.tokens.Token.{Token}
 use Rattle.sand_text.specs.declared.tokens.Token.TheVariants.{Number}
@@ -22,6 +22,7 @@ use Rattle.sand_text.specs.Texts.{row_text, rows_text, edge_text, text_of}
 use Rattle.sand_text.specs.Reading.{front_of, pile_of}
 use Rattle.sand_text.proofs.Cuts.{after_space, after_token}
 use Rattle.sand_text.proofs.Decimals.{only_digits}
+use Rattle.sand_text.proofs.Usual.{usual}
 
 abbrev AreSmall : List ℕ → Type 0
 AreSmall ns = All (λ n. n ≤ most_grains) ns
@@ -57,24 +58,14 @@ number_token at n le =
 number_first : (at n y : ℕ) (rest : List ℕ) → n ≤ most_grains → is_space y ≡ true
     → tokens_at at (decimal n ++ y ∷ rest) ≡ Number at n ∷ tokens_at (at + length (decimal n) + 1) rest
 number_first at n y rest le e =
-    let fits : n < 2 ^ 64 = omega arith in
-    after_token at (decimal n) (y ∷ rest) (record {
-      some = decimal_nonempty n fits;
-      plain = All-weaker (λ b. is_digit b ≡ true) (λ b. is_space b ≡ false)
-          digit_no_space (decimal n) (only_digits n fits);
-      ends = λ _. e;
-    }) ∙ rw (number_token at n le, after_space (at + length (decimal n)) y rest e) refl
+    let plain = All-weaker _ (λ b. is_space b ≡ false) digit_no_space (decimal n) (only_digits n (omega arith)) in
+    grind (arith, usual, after_token, decimal_nonempty, number_token, after_space)
 
 Say-number : (spared : List ℕ) (k : ℕ) (e : Edge) (at n y : ℕ) (rest ns : List ℕ) → n ≤ most_grains → is_space y ≡ true
     → Say spared (k + 1) e (tokens_at (at + length (decimal n) + 1) rest) ns
     → Say spared k e (tokens_at at (decimal n ++ y ∷ rest)) (n ∷ ns)
 unfolding first_strange first_large edge_behind
-Say-number spared k e at n y rest ns le space say = rw (number_first at n y rest le space) (record {
-  strange = say.strange;
-  large = rw (not_large n le) say.large;
-  edge = say.edge;
-  values = ap (λ l. n ∷ l) say.values;
-})
+Say-number spared k e at n y rest ns le space say = grind (arith, usual, number_first, not_large)
 
 -- ---- rows of numbers
 
@@ -135,23 +126,12 @@ text_again p h =
     (omega (arith, h.grid.height_limit)) (heights_small p h) (h.len ∙ mul_comm w p.grid.height)))
 
 wide_enough : (e : Edge) (w : ℕ) → (joins e ≡ true → 3 ≤ w) → (joins e && ltb w 3) ≡ false
-wide_enough Open w h = refl
-wide_enough Cylinder w h = let wide : 3 ≤ w = h refl in grind (arith, nat_tests)
+wide_enough e w h = grind (arith, usual)
 
 -- the sides and the edge of a grid make the same grid
 grid_again : (g : Grid) → IsGrid g → grid_with_edge g.width g.height g.edge ≡ Ok g
-grid_again g h =
-    let sides : (is_side g.width && is_side g.height) ≡ true =
-    grind (arith, nat_tests, h.some_width, h.width_limit, h.some_height, h.height_limit) in
-    let wide : (joins g.edge && ltb g.width 3) ≡ false = wide_enough g.edge g.width h.wide in
-    rw (sides, wide) refl
+grid_again g h = grind (arith, usual, wide_enough)
 
 pub again : (p : PileView) → IsPile p → pile_of (text_of p) ≡ Ok p
 unfolding pile_of front_of
-again p h =
-    let say = text_again p h in
-    let test : eqb (length p.heights) (sites p.grid) ≡ true = eq-eqb _ _ h.len in
-    let all : take (sites p.grid) p.heights ≡ p.heights =
-    take_all (sites p.grid) p.heights (omega (arith, h.len)) in
-    let few : ltb most_grains (sum p.heights) ≡ false = not_large (sum p.heights) h.limit in
-    rw (say.strange, say.large, say.edge, say.values, grid_again p.grid h.grid, test, all, few) refl
+again p h = grind (arith, usual, text_again, eq-eqb, take_all, not_large, grid_again)

@@ -1,9 +1,9 @@
 -- A text is cut into white space and tokens, so a claim for all texts is proved byte by byte of the white space, and
 -- token by token.
-use Rattle.std.proofs.Common.{◌≡◌, ℕ, suc, zero, ◌+◌, ◌<◌, ◌≤◌, List, [], ◌∷◌, ◌++◌, Bool, true, false, not, length, take, drop, get_or, refl, sym, ◌∙◌, ap, arith, add-zero, append-nil, drop-cons, length-append, length-drop, inl, inr, eqb, subst}
+use Rattle.std.proofs.Common.{◌≡◌, ℕ, suc, zero, ◌+◌, ◌<◌, ◌≤◌, List, [], ◌∷◌, ◌++◌, Bool, true, false, not, length, take, drop, get_or, refl, sym, ◌∙◌, ap, arith, add-zero, append-nil, drop-cons, length-append, length-drop, inl, inr, subst}
 use Rattle.std.proofs.lemmas.Bool.{not-true, cases_Bool}
 use Rattle.std.proofs.lemmas.Grind.{common_steps}
-use Rattle.std.proofs.lemmas.List.{get_or-take, get_or-drop, nil_from_length, take-append-drop}
+use Rattle.std.proofs.lemmas.List.{get_or-drop, nil_from_length, take-append-drop}
 use Rattle.std.proofs.lemmas.List.Folds.{length-prefix_len}
 use Rattle.std.proofs.lemmas.List.Splits.{slice_split_none, slice_split_at}
 use Rattle.std.proofs.lemmas.List.Sums.{prefix_len-le-length, fails_before_first, passes_at_first}
@@ -12,6 +12,7 @@ use Rattle.std.specs.Option.{unwrap_or}
 use Rattle.sand_text.specs.Bytes.{is_space, token_len}
 use Rattle.sand_text.specs.Tokens.{token_of, tokens_from, tokens_at}
 use Rattle.sand_text.specs.declared.tokens.Token.{Token}
+use Rattle.sand_text.proofs.Usual.{usual}
 
 pub unwrap_position : (p : ℕ → Bool) (xs : List ℕ) → unwrap_or (position p xs) (length xs) ≡ position_or_len p xs
 unwrap_position p xs = grind (arith, common_steps, prefix_len-le-length (λ x. not (p x)) xs)
@@ -29,29 +30,13 @@ after_space at x xs e = rw e refl
 pub after_token : (at : ℕ) (w r : List ℕ) → IsToken w r
     → tokens_at at (w ++ r) ≡ token_of at w ∷ tokens_at (at + length w) r
 unfolding tokens_from
-after_token at w [] is =
-    let some : eqb (length w) 0 ≡ false = grind (arith, common_steps, is.some) in
-    rw (append-nil, slice_split_none is_space w is.plain, some) refl
-after_token at w (y ∷ r) is =
-    let some : eqb (length w) 0 ≡ false = grind (arith, common_steps, is.some) in
-    let ends = is.ends (omega arith) in
-    rw (slice_split_at is_space w y r is.plain ends, ends, some) refl
+after_token at w r is = grind (arith, usual, append-nil, slice_split_none, slice_split_at)
 
 -- the bytes up to the first white space are a token
 pub first_token : (t : List ℕ) → 0 < length t → is_space (get_or t 0 0) ≡ false
     → IsToken (take (token_len t) t) (drop (token_len t) t)
-first_token [] some e = absurd (omega arith)
-first_token (x ∷ xs) some e =
-    let t : List ℕ = x ∷ xs in
-    let len = length-prefix_len (λ b. not (is_space b)) t in
-    let one : 0 < token_len t = rw e (omega arith) in
-    record {
-      some = omega arith;
-      plain = λ k d lt. rw (get_or-take (token_len t) t k d (omega arith))
-          (fails_before_first is_space t k d (omega arith));
-      ends = λ more. rw (get_or-drop (token_len t) t 0 0, add-zero (token_len t))
-          (passes_at_first is_space t 0 (omega (arith, length-drop (token_len t) t)));
-    }
+first_token t some e =
+    grind (arith, usual, length-prefix_len, fails_before_first, get_or-drop, passes_at_first, length-drop)
 
 -- ---- by tokens
 
@@ -100,9 +85,7 @@ gap at (x ∷ xs) = elim (cases_Bool (is_space x)) [
 -- nothing follows the white space at the front
 pub none_left : (at k : ℕ) (bs : List ℕ) → k ≡ gap_len bs → length (drop k bs) ≡ 0 → tokens_at at bs ≡ []
 unfolding tokens_from
-none_left at k bs e none =
-    let nothing : drop (gap_len bs) bs ≡ [] = rw e at (nil_from_length (drop k bs) none) in
-    gap at bs ∙ rw nothing refl
+none_left at k bs e none = grind (arith, usual, nil_from_length, gap)
 
 -- t is the text from the first token on, w the token, and r what follows it
 pub token_left : (at k len : ℕ) (bs t w r : List ℕ)

@@ -1,6 +1,6 @@
 -- The numbers of a text, by its tokens and by its longest runs of digits.
-use Rattle.std.proofs.Common.{◌≡◌, ℕ, ◌+◌, List, [], ◌∷◌, ◌++◌, true, false, not, ◌==◌, length, map, Some, None, refl, sym, ◌∙◌, ap, arith, append-nil, inl, inr, ltb}
-use Rattle.std.specs.List.{filter, list_any, All}
+use Rattle.std.proofs.Common.{◌≡◌, ℕ, ◌+◌, List, ◌∷◌, ◌++◌, true, false, map, None, refl, ◌∙◌, ap, arith, append-nil, inl, inr}
+use Rattle.std.specs.List.{All}
 use Rattle.std.specs.Str.Parse.{digits_value}
 use Rattle.std.proofs.lemmas.Bool.{cases_cond}
 use Rattle.std.proofs.lemmas.Bool.Decides.{nat_tests}
@@ -12,6 +12,7 @@ use Rattle.sand_text.specs.Tokens.{token_of, first_strange, numbers}
 use Rattle.sand_text.specs.Laws.{digit_runs, NumbersAreRuns}
 use Rattle.sand_text.proofs.Cuts.{IsToken, by_tokens}
 use Rattle.sand_text.proofs.StrangeBytes.{kind}
+use Rattle.sand_text.proofs.Usual.{usual}
 
 -- white space is not a digit
 space_other : (b : ℕ) → is_space b ≡ true → is_other b ≡ true
@@ -19,13 +20,7 @@ space_other b e = grind (arith, nat_tests)
 
 -- a token of digits is a run
 digits_first : (w r : List ℕ) → IsToken w r → All (λ b. is_other b ≡ false) w → digit_runs (w ++ r) ≡ w ∷ digit_runs r
-digits_first w [] is digits =
-    let some : ltb 0 (length w) ≡ true = grind (arith, nat_tests, is.some) in
-    rw (append-nil, slice_split_none is_other w digits, some) refl
-digits_first w (y ∷ r) is digits =
-    let some : ltb 0 (length w) ≡ true = grind (arith, nat_tests, is.some) in
-    let other = space_other y (is.ends (omega arith)) in
-    rw (slice_split_at is_other w y r digits other, other, some) refl
+digits_first w r is digits = grind (arith, usual, append-nil, slice_split_none, space_other, slice_split_at)
 
 abbrev run_values : List ℕ → List ℕ
 run_values bs = map (λ run. capped (digits_value 10 run)) (digit_runs bs)
@@ -35,12 +30,7 @@ Agree bs ws = (spared : List ℕ) (n : ℕ) → first_strange spared n ws ≡ No
 
 at_letter : (at : ℕ) (r : List ℕ) (ws : List Token) → Agree r ws → Agree (99 ∷ r) (Letter at ∷ ws)
 unfolding first_strange
-at_letter at r ws rest spared n none =
-    let others : List ℕ = filter (λ k. not (k == n)) spared in
-    elim (cases_cond (list_any (λ k. k == n) spared) (first_strange others n ws) (Some at) None (sym none)) [
-      | inl allowed ↦ rest others n (sym allowed)
-      | inr strange ↦ absurd (cc)
-    ]
+at_letter at r ws rest spared n none = grind (arith, usual, cases_cond)
 
 at_token : (at : ℕ) (w r : List ℕ) (ws : List Token) → IsToken w r → Agree r ws → Agree (w ++ r) (token_of at w ∷ ws)
 unfolding first_strange token_of

@@ -8,6 +8,7 @@ use Rattle.std.proofs.lemmas.List.{take-append-le}
 use Rattle.sand_text.specs.declared.fault.StreamFault.{StreamFault}
 use Rattle.sand_text.specs.declared.fault.StreamFault.TheVariants.{Write}
 use Rattle.sand_text.specs.Blocks.{BreaksIn, GrowsBy, Waiting}
+use Rattle.sand_text.proofs.Usual.{usual}
 
 pub stays : (held : Option (List ℕ)) (b : Waiting) → GrowsBy held held b b []
 stays held b = record { gone = []; all = append-nil b.bytes; count = omega arith; written = Appends-nil held }
@@ -48,18 +49,7 @@ breaks_on held mid held' b c p q fault first broken =
 -- a failure in a part is a failure whatever follows
 pub breaks_before : (held held' : Option (List ℕ)) (b : Waiting) (p q : List ℕ) (fault : StreamFault)
     → BreaksIn held held' b p fault → BreaksIn held held' b (p ++ q) fault
-breaks_before held held' b p q fault broken =
-    let whole : b.bytes ++ (p ++ q) ≡ (b.bytes ++ p) ++ q = sym (append_assoc b.bytes p q) in
-    let long : length (b.bytes ++ (p ++ q)) ≡ length (b.bytes ++ p) + length q =
-    ap length whole ∙ length-append (b.bytes ++ p) q in
-    record {
-      taken = broken.taken;
-      told = broken.told;
-      within = omega (arith, long, broken.within);
-      written = subst (Appends held held')
-          (sym (ap (take broken.taken) whole ∙ take-append-le broken.taken (b.bytes ++ p) q broken.within))
-          broken.written;
-    }
+breaks_before held held' b p q fault broken = grind (arith, usual, append_assoc, length-append, take-append-le)
 
 -- one part, then a failure in another, whatever follows
 pub breaks_within : (held mid held' : Option (List ℕ)) (b c : Waiting) (p q rest whole : List ℕ) (fault : StreamFault)

@@ -1,5 +1,5 @@
 -- One more byte of the runs of digits.
-use Rattle.std.proofs.Common.{◌≡◌, ℕ, ◌+◌, ◌*◌, ◌<◌, ◌≤◌, List, [], ◌∷◌, Bool, true, false, length, drop, get_or, ltb, refl, sym, ap, arith, ◌||◌, nat_lt, not}
+use Rattle.std.proofs.Common.{◌≡◌, ℕ, ◌+◌, ◌*◌, ◌<◌, ◌≤◌, List, [], ◌∷◌, Bool, true, false, length, drop, get_or, ltb, sym, arith, ◌||◌, nat_lt}
 use Rattle.std.specs.Bool.{if◌then◌else◌}
 use Rattle.std.specs.Char.{digit_value}
 use Rattle.std.specs.List.{list_any, onto_first, slice_split}
@@ -9,6 +9,7 @@ use Rattle.std.proofs.lemmas.List.{drop_all, drop_more}
 use Rattle.std.proofs.lemmas.List.Splits.{slice_split-cons_yes, slice_split-cons_no}
 use Rattle.sand_text.specs.Bytes.{is_digit, is_other, capped, has_large}
 use Rattle.sand_model.specs.Piles.{most_grains}
+use Rattle.sand_text.proofs.Usual.{usual}
 
 abbrev over : List ℕ → Bool
 over run = nat_lt most_grains (digits_value 10 run)
@@ -23,8 +24,7 @@ abbrev pub large_from : ℕ → ℕ → List ℕ → Bool
 large_from v k text = large_on v (slice_split is_other (drop k text))
 
 from_none : (runs : List (List ℕ)) → large_on 0 runs ≡ list_any over runs
-from_none [] = refl
-from_none (run ∷ more) = refl
+from_none runs = grind (arith, usual)
 
 pub large_start : (text : List ℕ) → large_from 0 0 text ≡ has_large text
 large_start text = from_none (slice_split is_other text)
@@ -36,20 +36,11 @@ grows v (b ∷ run) = let more = grows (v * 10 + digit_value b) run in omega (ar
 
 digit_on : (v b : ℕ) (runs : List (List ℕ)) → v * 10 + digit_value b ≤ most_grains
     → large_on v (onto_first b runs) ≡ large_on (v * 10 + digit_value b) runs
-digit_on v b [] le =
-    let test : ltb most_grains (v * 10 + digit_value b) ≡ false = grind (arith, nat_tests) in
-    rw test refl
-digit_on v b (run ∷ more) le = refl
+digit_on v b runs le = grind (arith, usual)
 
 digit_over : (v b : ℕ) (runs : List (List ℕ)) → most_grains < v * 10 + digit_value b
     → large_on v (onto_first b runs) ≡ true
-digit_over v b [] lt =
-    let test : ltb most_grains (v * 10 + digit_value b) ≡ true = grind (arith, nat_tests) in
-    rw test refl
-digit_over v b (run ∷ more) lt =
-    let up = grows (v * 10 + digit_value b) run in
-    let test : ltb most_grains (digits_value_after 10 (v * 10 + digit_value b) run) ≡ true = grind (arith, nat_tests) in
-    rw test refl
+digit_over v b runs lt = grind (arith, usual, grows)
 
 break_on : (v : ℕ) (runs : List (List ℕ)) → v ≤ most_grains → large_on v ([] ∷ runs) ≡ large_on 0 runs
 break_on v runs le = let test : ltb most_grains v ≡ false = grind (arith, nat_tests) in rw test (sym (from_none runs))
@@ -58,36 +49,23 @@ break_on v runs le = let test : ltb most_grains v ≡ false = grind (arith, nat_
 by_byte : (d : Bool) (v w b : ℕ) (rest : List ℕ) → is_digit b ≡ d → v ≤ most_grains
     → w ≡ (if d then capped (v * 10 + digit_value b) else 0) → w ≤ most_grains
     → large_on w (slice_split is_other rest) ≡ large_on v (slice_split is_other (b ∷ rest))
-by_byte true v w b rest is le value small =
-    let exact : w ≡ v * 10 + digit_value b = omega arith in
-    let cut = slice_split-cons_no is_other b rest (ap not is) in
-    rw (cut, exact) (sym (digit_on v b (slice_split is_other rest) (omega arith)))
-by_byte false v w b rest is le value small =
-    let cut = slice_split-cons_yes is_other b rest (ap not is) in
-    rw (cut, value) (sym (break_on v (slice_split is_other rest) le))
+by_byte true v w b rest is le value small = grind (arith, usual, slice_split-cons_no, digit_on)
+by_byte false v w b rest is le value small = grind (arith, usual, slice_split-cons_yes, break_on)
 
 over_byte : (d : Bool) (v w b : ℕ) (rest : List ℕ) → is_digit b ≡ d
     → w ≡ (if d then capped (v * 10 + digit_value b) else 0) → most_grains < w
     → large_on v (slice_split is_other (b ∷ rest)) ≡ true
-over_byte true v w b rest is value lt =
-    let cut = slice_split-cons_no is_other b rest (ap not is) in
-    rw cut (digit_over v b (slice_split is_other rest) (omega arith))
-over_byte false v w b rest is value lt = absurd (omega arith)
+over_byte d v w b rest is value lt = grind (arith, usual, slice_split-cons_no, digit_over)
 
 pub one_byte : (text : List ℕ) (k v w : ℕ) → k < length text → v ≤ most_grains
     → w ≡ (if is_digit (get_or text k 0) then capped (v * 10 + digit_value (get_or text k 0)) else 0)
     → w ≤ most_grains → large_from w (k + 1) text ≡ large_from v k text
-one_byte text k v w lt le value small = rw (drop_more text k 0 lt)
-    (by_byte (is_digit (get_or text k 0)) v w (get_or text k 0) (drop (k + 1) text) refl le value small)
+one_byte text k v w lt le value small = grind (arith, usual, drop_more, by_byte)
 
 pub found_large : (text : List ℕ) (k v w : ℕ) → k < length text
     → w ≡ (if is_digit (get_or text k 0) then capped (v * 10 + digit_value (get_or text k 0)) else 0)
     → most_grains < w → large_from v k text ≡ true
-found_large text k v w lt value more = rw (drop_more text k 0 lt)
-    (over_byte (is_digit (get_or text k 0)) v w (get_or text k 0) (drop (k + 1) text) refl value more)
+found_large text k v w lt value more = grind (arith, usual, drop_more, over_byte)
 
 pub none_large : (text : List ℕ) (k v : ℕ) → length text ≤ k → v ≤ most_grains → large_from v k text ≡ false
-none_large text k v le small =
-    let none : drop k text ≡ [] = drop_all k text le in
-    let test : ltb most_grains v ≡ false = grind (arith, nat_tests) in
-    rw (none, test) refl
+none_large text k v le small = grind (arith, usual, drop_all)

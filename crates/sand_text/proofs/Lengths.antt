@@ -1,14 +1,12 @@
 -- A text has no more numbers than bytes.
 use Rattle.std.proofs.Common.{ℕ, suc, ◌≤◌, List, ◌∷◌, length, length-append, arith}
 use Rattle.sand_text.specs.declared.tokens.Token.{Token}
-use Rattle.sand_text.specs.declared.tokens.Token.TheVariants.{Number, Letter, Strange}
 use Rattle.sand_text.specs.Tokens.{token_of, tokens_at, numbers}
 use Rattle.sand_text.proofs.Cuts.{by_tokens}
+use Rattle.sand_text.proofs.Usual.{usual}
 
 one_more : (w : Token) (ws : List Token) → length (numbers (w ∷ ws)) ≤ suc (length (numbers ws))
-one_more (Number at value) ws = omega arith
-one_more (Letter at) ws = omega arith
-one_more (Strange at) ws = omega arith
+one_more w ws = grind (arith, usual)
 
 pub few_numbers : (at : ℕ) (bs : List ℕ) → length (numbers (tokens_at at bs)) ≤ length bs
 few_numbers = by_tokens (λ at bs ws. length (numbers ws) ≤ length bs)

@@ -20,3 +20,4 @@ pub mod TableSteps
 pub mod TwoPiles
 pub mod TwoWalks
 pub mod Taking
+pub mod Usual

@@ -1,9 +1,8 @@
 -- One more number after the sides of a text: a height, or the site of a drop.
-use Rattle.std.proofs.Common.{◌≡◌, ℕ, ◌+◌, ◌-◌, ◌<◌, ◌≤◌, not, List, [], ◌∷◌, ◌++◌, Bool, true, false, length, take, drop, get_or, eqb, ltb, cond, refl, sym, ◌∙◌, ap, arith, inl, inr, length-drop, Option, Some, None, nat_lt, nat_le, sum}
+use Rattle.std.proofs.Common.{◌≡◌, ℕ, ◌+◌, ◌-◌, ◌<◌, ◌≤◌, not, List, [], ◌∷◌, ◌++◌, Bool, length, take, drop, get_or, eqb, cond, refl, arith, length-drop, Option, Some, None, nat_lt, nat_le, sum}
 use Rattle.std.specs.Bool.{if◌then◌else◌}
 use Rattle.std.specs.List.{position, position_or_len}
 use Rattle.std.proofs.lemmas.Bool.{cases_lt}
-use Rattle.std.proofs.lemmas.Bool.Decides.{nat_tests}
 use Rattle.std.proofs.lemmas.List.{get_or-drop, take_all, drop_all, take-append-le, drop-append-le, length_push, take_more, length-take-le}
 use Rattle.std.proofs.lemmas.List.Sums.{sum_by_push, prefix_len-le-length}
 use Rattle.std.proofs.lemmas.List.Folds.{position_or_len_push}
@@ -12,51 +11,23 @@ use Rattle.sand_text.specs.declared.tokens.Token.{Token}
 use Rattle.sand_text.specs.Bytes.{capped}
 use Rattle.sand_text.specs.Tokens.{numbers}
 use Rattle.sand_text.specs.Surveys.{noted}
+use Rattle.sand_text.proofs.Usual.{usual}
 
 pub sum_push : (room value g : ℕ) (ns : List ℕ) → g ≡ capped (sum (take room ns))
     → (if nat_lt (length ns) room then capped (g + value) else g) ≡ capped (sum (take room (ns ++ value ∷ [])))
-sum_push room value g ns h = elim (cases_lt (length ns) room) [
-  | inl low ↦
-      let test : ltb (length ns) room ≡ true = grind (arith, nat_tests) in
-      let before : take room ns ≡ ns = take_all room ns (omega arith) in
-      let after : take room (ns ++ value ∷ []) ≡ ns ++ value ∷ [] =
-      take_all room (ns ++ value ∷ []) (omega (arith, length_push ns value)) in
-      let total = sum_by_push (λ x. x) ns value in
-      let so_far = rw before at h in
-      rw (test, after) (omega arith)
-  | inr high ↦
-      let test : ltb (length ns) room ≡ false = grind (arith, nat_tests) in
-      rw (test, take-append-le room ns (value ∷ []) high) h
-]
+sum_push room value g ns h = grind (arith, usual, cases_lt, take_all, length_push, sum_by_push, take-append-le)
 
 -- the first index that passes a test, if none before the last does
 found_last : (b : Bool) (count next more : ℕ) → next ≡ count + cond b 0 1 → more ≡ count + 1
     → cond (nat_lt next more) (Some next) None ≡ (if b then Some count else None)
-found_last true count next more is len =
-    let here : next ≡ count = omega arith in
-    let test : ltb next more ≡ true = grind (arith, nat_tests) in
-    rw (test, here) refl
-found_last false count next more is len =
-    let test : ltb next more ≡ false = grind (arith, nat_tests) in
-    rw test refl
+found_last b count next more is len = grind (arith, usual)
 
 -- the first index that passes a test
 found_push : (b : Bool) (first count next more : ℕ) → first ≤ count
     → next ≡ cond (eqb first count) (count + cond b 0 1) first → more ≡ count + 1
     → cond (nat_lt next more) (Some next) None
     ≡ option_or (cond (nat_lt first count) (Some first) None) (if b then Some count else None)
-found_push b first count next more le is len = elim (cases_lt first count) [
-  | inl lt ↦
-      let other : eqb first count ≡ false = grind (arith, nat_tests) in
-      let same = rw other at is in
-      let before : ltb first count ≡ true = grind (arith, nat_tests) in
-      let after : ltb next more ≡ true = grind (arith, nat_tests) in
-      rw (before, after, same) refl
-  | inr ge ↦
-      let all : eqb first count ≡ true = grind (arith, nat_tests) in
-      let none : ltb first count ≡ false = grind (arith, nat_tests) in
-      rw none (found_last b count next more (rw all at is) len)
-]
+found_push b first count next more le is len = grind (arith, usual, cases_lt, found_last)
 
 position_push : (p : ℕ → Bool) (ns : List ℕ) (y : ℕ)
     → position p (ns ++ y ∷ []) ≡ option_or (position p ns) (if p y then Some (length ns) else None)
@@ -68,29 +39,12 @@ pub no_site_push : (room value : ℕ) (a : Option ℕ) (ns : List ℕ)
     → a ≡ position (nat_le room) (drop room ns) → option_or a
     (if nat_lt (length ns) room then None else (if nat_le room value then Some (length ns - room) else None))
     ≡ position (nat_le room) (drop room (ns ++ value ∷ []))
-no_site_push room value a ns h = elim (cases_lt (length ns) room) [
-  | inl low ↦
-      let test : ltb (length ns) room ≡ true = grind (arith, nat_tests) in
-      let before : drop room ns ≡ [] = drop_all room ns (omega arith) in
-      let after : drop room (ns ++ value ∷ []) ≡ [] =
-      drop_all room (ns ++ value ∷ []) (omega (arith, length_push ns value)) in
-      let none = rw before at h in
-      rw (test, after, none) refl
-  | inr high ↦
-      let test : ltb (length ns) room ≡ false = grind (arith, nat_tests) in
-      let cut : drop room (ns ++ value ∷ []) ≡ drop room ns ++ value ∷ [] = drop-append-le room ns (value ∷ []) high in
-      rw (test, cut, h, ← length-drop room ns) (sym (position_push (nat_le room) (drop room ns) value))
-]
+no_site_push room value a ns h =
+    grind (arith, usual, cases_lt, drop_all, length_push, drop-append-le, length-drop, position_push)
 
 pub noted-next : (ws : List Token) (k v : ℕ) → 2 ≤ k → k < length (numbers ws) → get_or (numbers ws) k 0 ≡ v
     → noted (k + 1) ws ≡ noted k ws ++ v ∷ []
-noted-next ws k v le lt is =
-    let ns = numbers ws in
-    let place : k + 1 - 2 ≡ k - 2 + 1 = omega arith in
-    let there : get_or (drop 2 ns) (k - 2) 0 ≡ v =
-    get_or-drop 2 ns (k - 2) 0 ∙ (ap (λ n. get_or ns n 0) (omega arith) ∙ is) in
-    let more = take_more (drop 2 ns) (k - 2) 0 (omega (arith, length-drop 2 ns)) in
-    ap (λ n. take n (drop 2 ns)) place ∙ (more ∙ ap (λ n. take (k - 2) (drop 2 ns) ++ n ∷ []) there)
+noted-next ws k v le lt is = grind (arith, usual, get_or-drop, take_more, length-drop)
 
 pub length-noted : (ws : List Token) (k : ℕ) → k ≤ length (numbers ws) → length (noted k ws) ≡ k - 2
 length-noted ws k le = length-take-le (k - 2) (drop 2 (numbers ws)) (omega (arith, length-drop 2 (numbers ws)))

@@ -15,6 +15,7 @@ use Rattle.sand_text.specs.Pictures.{chunks, lines_text, values_text, pgm_text_o
 use Rattle.sand_text.specs.Bytes.{is_digit}
 use Rattle.sand_text.proofs.Decimals.{only_digits}
 use Rattle.sand_text.proofs.Chunks.{chunks-next, chunks-end}
+use Rattle.sand_text.proofs.Usual.{usual}
 
 abbrev cut_lines : List ℕ → List (List ℕ)
 cut_lines text = slice_split (λ b. b == 10) text
@@ -92,10 +93,7 @@ row_line n (m ∷ ns) low =
 
 row_lines : (ns : List ℕ) → 0 < length ns → length ns ≤ 35 → AreLow ns → IsLines (row_text ns)
 row_lines [] some most low = absurd (omega arith)
-row_lines (n ∷ ns) some most low =
-    let row = row_line n ns low in
-    let len : length row.0 + 1 ≡ 2 * length (n ∷ ns) = row.1.len in
-    rw (row.1.text) (IsLines-one row.0 row.1.plain (omega arith, omega arith))
+row_lines (n ∷ ns) some most low = grind (arith, usual, row_line, IsLines-one)
 
 -- the chunks of a list of stable heights, if each chunk makes short lines
 all_lines : (f : List ℕ → List ℕ) (size fuel : ℕ) (ns : List ℕ) → 0 < size

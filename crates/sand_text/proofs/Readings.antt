@@ -1,5 +1,5 @@
 -- What the survey of all tokens says of a text.
-use Rattle.std.proofs.Common.{◌≡◌, ℕ, ◌-◌, List, [], ◌∷◌, Bool, false, length, take, drop, refl, sym, ◌∙◌, arith, length-drop, Option, Some, None, nat_le}
+use Rattle.std.proofs.Common.{◌≡◌, ℕ, ◌-◌, List, [], ◌∷◌, Bool, false, length, take, drop, refl, sym, ◌∙◌, arith, length-drop, Option, None, nat_le}
 use Rattle.std.specs.List.{position}
 use Rattle.std.specs.Prelude.{Ok, Err}
 use Rattle.std.proofs.lemmas.List.{length-take-le, take_all}
@@ -11,14 +11,14 @@ use Rattle.sand_text.specs.declared.survey.Survey.{Survey}
 use Rattle.sand_text.specs.declared.tokens.Token.{Token}
 use Rattle.sand_text.specs.Tokens.{tokens, first_strange, first_large, numbers}
 use Rattle.sand_text.specs.Reading.{plain_tokens, unless_at}
-use Rattle.sand_text.specs.Surveys.{IsSurvey, IsShaped, IsStrangeAt, sites_of, noted}
+use Rattle.sand_text.specs.Surveys.{IsSurvey, IsShaped, IsStrangeAt, sites_of}
 use Rattle.sand_text.proofs.Shapes.{count_at_end}
+use Rattle.sand_text.proofs.Usual.{usual}
 
 -- ---- the tokens
 
 or_none : (a : Option ℕ) → option_or a None ≡ a
-or_none None = refl
-or_none (Some at) = refl
+or_none a = grind (arith, usual)
 
 -- no token is strange
 none_strange : (ws : List Token) (s : Survey) → IsSurvey ws [] s → first_strange (2 ∷ []) 0 ws ≡ None
@@ -43,18 +43,13 @@ plain_is text s h = rw (none_strange (tokens text) s h, large_is (tokens text) s
 -- a pile has as many heights as sites
 pub one_each : (last : Bool) (end : ℕ) (ws : List Token) (s : Survey) (g : Grid) → IsShaped last end ws s g
     → length (take (sites g) (drop 2 (numbers ws))) ≡ sites g
-one_each last end ws s g h =
-    length-take-le (sites g) (drop 2 (numbers ws)) (omega (arith, h.enough, length-drop 2 (numbers ws)))
+one_each last end ws s g h = grind (arith, usual, length-take-le, length-drop)
 
 -- the first drop outside the grid
 pub no_site_is : (ws : List Token) (s : Survey) (g : Grid) → IsSurvey ws [] s → sites_of s ≡ sites g
     → position (nat_le (sites g)) (drop (sites g) (drop 2 (numbers ws))) ≡ s.no_site
-no_site_is ws s g h room =
-    let all : noted s.count ws ≡ drop 2 (numbers ws) =
-    take_all (s.count - 2) (drop 2 (numbers ws)) (omega (arith, count_at_end ws s h, length-drop 2 (numbers ws))) in
-    sym (rw (room, all) at h.no_site)
+no_site_is ws s g h room = grind (arith, usual, take_all, count_at_end, length-drop)
 
 pub drop_count : (end : ℕ) (ws : List Token) (s : Survey) (g : Grid) → IsSurvey ws [] s → IsShaped false end ws s g
     → length (drop (sites g) (drop 2 (numbers ws))) ≡ s.count - 2 - sites g
-drop_count end ws s g h shaped =
-    omega (arith, count_at_end ws s h, length-drop 2 (numbers ws), length-drop (sites g) (drop 2 (numbers ws)))
+drop_count end ws s g h shaped = grind (arith, usual, count_at_end, length-drop)

@@ -1,17 +1,14 @@
 -- One step of writing a row or rows.
-use Rattle.std.proofs.Common.{◌≡◌, ℕ, suc, ◌+◌, ◌*◌, ◌<◌, ◌≤◌, List, [], ◌∷◌, ◌++◌, length, take, drop, get_or, decimal, refl, ◌∙◌, ap, arith, length-drop, eqb}
+use Rattle.std.proofs.Common.{◌≡◌, ℕ, ◌+◌, ◌*◌, ◌<◌, ◌≤◌, List, [], ◌∷◌, ◌++◌, length, take, drop, get_or, decimal, refl, ap, arith, length-drop}
 use Rattle.std.specs.Bool.{if◌then◌else◌, ◌==◌}
-use Rattle.std.proofs.lemmas.Bool.Decides.{nat_tests}
 use Rattle.std.proofs.lemmas.List.{at_drop_all, at_drop_more}
 use Rattle.sand_text.specs.Texts.{row_text, rows_text}
+use Rattle.sand_text.proofs.Usual.{usual}
 
 pub row_text-next : (ns : List ℕ) (i : ℕ) → i < length ns → row_text (drop i ns)
     ≡ decimal (get_or ns i 0) ++ (if i + 1 == length ns then 10 else 32) ∷ row_text (drop (i + 1) ns)
 unfolding row_text
-row_text-next ns i lt =
-    let len = length-drop (i + 1) ns in
-    let same : eqb (length (drop (i + 1) ns)) 0 ≡ eqb (i + 1) (length ns) = rw len (grind (arith, nat_tests)) in
-    at_drop_more row_text ns i 0 lt ∙ rw same refl
+row_text-next ns i lt = grind (arith, usual, length-drop, at_drop_more)
 
 pub row_text-end : (ns : List ℕ) (i : ℕ) → length ns ≤ i → row_text (drop i ns) ≡ []
 unfolding row_text
@@ -20,9 +17,7 @@ row_text-end ns i le = at_drop_all row_text ns i le
 pub rows_text-next : (n k w : ℕ) (ns : List ℕ) → n ≡ k + 1
     → rows_text n w ns ≡ row_text (take w ns) ++ rows_text k w (drop w ns)
 unfolding rows_text
-rows_text-next n k w ns e =
-    let e : n ≡ suc k = omega arith in
-    rw e refl
+rows_text-next n k w ns e = grind (arith, usual)
 
 pub rows_text-none : (n w : ℕ) (ns : List ℕ) → n ≡ 0 → rows_text n w ns ≡ []
 unfolding rows_text

@@ -1,5 +1,5 @@
 -- What the survey of a pile says of the pile at the front of the numbers.
-use Rattle.std.proofs.Common.{◌≡◌, ℕ, ◌+◌, ◌-◌, ◌*◌, ◌<◌, ◌≤◌, List, [], ◌∷◌, Bool, true, false, length, take, drop, get_or, eqb, ltb, leb, refl, sym, ◌∙◌, ap, arith, inl, inr, length-drop, sum, min, ◌&&◌}
+use Rattle.std.proofs.Common.{◌≡◌, ℕ, ◌+◌, ◌-◌, ◌*◌, ◌<◌, ◌≤◌, List, [], ◌∷◌, Bool, true, false, length, take, drop, get_or, ltb, refl, ◌∙◌, ap, arith, length-drop, sum, min}
 use Rattle.std.specs.Prelude.{◌⊎◌, Result, Ok, Err, IsTrue}
 use Rattle.std.specs.Bool.{if◌then◌else◌}
 use Rattle.std.proofs.Math.Nat.{mul-le-mul}
@@ -7,42 +7,36 @@ use Rattle.std.proofs.lemmas.Bool.{and_parts}
 use Rattle.std.proofs.lemmas.Bool.Decides.{nat_tests}
 use Rattle.std.proofs.lemmas.List.{take-take}
 use Rattle.sand_model.specs.declared.shape.Edge.{Edge}
-use Rattle.sand_model.specs.declared.shape.Edge.TheVariants.{Open, Cylinder}
+use Rattle.sand_model.specs.declared.shape.Edge.TheVariants.{Open}
 use Rattle.sand_model.specs.declared.faults.ShapeFault.{ShapeFault}
 use Rattle.sand_model.specs.declared.faults.ShapeFault.TheVariants.{Side, Narrow}
-use Rattle.sand_model.specs.Grid.{Grid, grid_with_edge, is_side, joins, sites}
+use Rattle.sand_model.specs.Grid.{Grid, grid_with_edge, is_side, sites}
 use Rattle.sand_text.specs.declared.fault.TextFault.TheVariants.{Text, Length, TooManyGrains}
 use Rattle.sand_text.specs.declared.survey.Survey.{Survey}
 use Rattle.sand_text.specs.declared.tokens.Token.{Token}
 use Rattle.sand_text.specs.declared.tokens.Token.TheVariants.{Number, Letter, Strange}
 use Rattle.sand_text.specs.Tokens.{edge_behind, numbers}
 use Rattle.sand_text.specs.Reading.{pile_at, filled, is_count, of_shape}
-use Rattle.sand_text.specs.Surveys.{IsSurvey, IsFull, IsEnd, IsShaped, edge_or, sites_of, noted}
+use Rattle.sand_text.specs.Surveys.{IsSurvey, IsFull, IsEnd, IsShaped, edge_or, sites_of}
 use Rattle.sand_model.specs.Piles.{most_grains}
+use Rattle.sand_text.proofs.Usual.{usual}
 
 -- ---- the end of a survey
 
 or_open : (e : Edge) → edge_or e Open ≡ e
-or_open Open = refl
-or_open Cylinder = refl
+or_open e = grind (arith, usual)
 
 -- a letter after k numbers is not after more than k
 pub no_later_letter : (k n : ℕ) (ws : List Token) → k < n → edge_behind k n ws ≡ Open
 unfolding edge_behind
 no_later_letter k n [] lt = refl
 no_later_letter k n (Number at value ∷ ws) lt = no_later_letter k (n + 1) ws (omega arith)
-no_later_letter k n (Letter at ∷ ws) lt =
-    let test : eqb k n ≡ false = grind (arith, nat_tests) in
-    rw test (no_later_letter k n ws lt)
+no_later_letter k n (Letter at ∷ ws) lt = grind (arith, usual, no_later_letter k n ws lt)
 no_later_letter k n (Strange at ∷ ws) lt = no_later_letter k n ws lt
 
 -- a full pile has at least one site
 pub full_count : (s : Survey) → IsFull s → 3 ≤ s.count
-full_count s full =
-    let width : 1 ≤ s.width = grind (arith, nat_tests, full.width) in
-    let height : 1 ≤ s.height = grind (arith, nat_tests, full.height) in
-    let some : 1 * 1 ≤ s.width * s.height = mul-le-mul width height in
-    omega (arith, full.count)
+full_count s full = grind (arith, usual, mul-le-mul)
 
 pub all_taken : (ws rest : List Token) (s : Survey) → IsSurvey ws rest s → rest ≡ [] → length (numbers ws) ≡ s.count
 all_taken ws rest s h none = omega (
@@ -58,48 +52,30 @@ count_at_end ws s h = all_taken ws [] s h refl
 
 -- a survey ends with the text, or with a full pile that is not the last
 by_end : (last : Bool) (rest : List Token) (s : Survey) → IsEnd last rest s → (rest ≡ []) ⊎ ((last ≡ false) × IsFull s)
-by_end true rest s none = inl none
-by_end false rest s (inl none) = inl none
-by_end false rest s (inr full) = inr (refl, full)
+by_end last rest s end = grind (arith, usual)
 
 -- ---- the pile at the front of the numbers
 
 few : (e : Edge) (last : Bool) (end : ℕ) (ns : List ℕ) → length ns < 2 → pile_at e last end ns ≡ Err (Text end)
-few e last end [] lt = refl
-few e last end (w ∷ []) lt = refl
-few e last end (w ∷ h ∷ ns) lt = absurd (omega arith)
+few e last end ns lt = grind (arith, usual)
 
 many : (e : Edge) (last : Bool) (end : ℕ) (ns : List ℕ) → 2 ≤ length ns
     → pile_at e last end ns ≡ filled last (grid_with_edge (get_or ns 0 0) (get_or ns 1 0) e) (drop 2 ns)
-many e last end [] lt = absurd (omega arith)
-many e last end (w ∷ []) lt = absurd (omega arith)
-many e last end (w ∷ h ∷ ns) lt = refl
+many e last end ns lt = grind (arith, usual)
 
 module _ (last : Bool) (end : ℕ) (ws rest : List Token) (s : Survey)
     (h : IsSurvey ws rest s) (ends : IsEnd last rest s) where
   edge_found : s.edge ≡ edge_behind 2 0 ws
   unfolding edge_behind
-  edge_found =
-      let none : edge_behind 2 s.count rest ≡ Open = elim (by_end last rest s ends) [
-        | inl none ↦ rw none refl
-        | inr full ↦ no_later_letter 2 s.count rest (omega (arith, full_count s full.1))
-      ] in
-      sym (or_open s.edge) ∙ (rw none at h.letters.edge)
+  edge_found = grind (arith, usual, by_end, no_later_letter, full_count, or_open)
 
   pub too_few : s.count < 2 → pile_at (edge_behind 2 0 ws) last end (numbers ws) ≡ Err (Text end)
-  too_few lt = elim (by_end last rest s ends) [
-    | inl none ↦ few (edge_behind 2 0 ws) last end (numbers ws) (omega (arith, all_taken ws rest s h none))
-    | inr full ↦ absurd (omega (arith, full_count s full.1))
-  ]
+  too_few lt = grind (arith, usual, by_end, few, all_taken, full_count)
 
   -- the sides, and the numbers after them
   sized : (grid : Result Grid ShapeFault) → 2 ≤ s.count → grid ≡ grid_with_edge s.width s.height s.edge
       → pile_at (edge_behind 2 0 ws) last end (numbers ws) ≡ filled last grid (drop 2 (numbers ws))
-  sized grid le is =
-      let width = h.counted.width (omega arith) in
-      let height = h.counted.height (omega arith) in
-      many (edge_behind 2 0 ws) last end (numbers ws) (omega (arith, h.counted.within))
-      ∙ ap (λ g. filled last g (drop 2 (numbers ws))) (sym (rw (edge_found, width, height) at is))
+  sized grid le is = grind (arith, usual, many, edge_found)
 
   pub no_shape : (fault : ShapeFault) → 2 ≤ s.count → Err fault ≡ grid_with_edge s.width s.height s.edge
       → pile_at (edge_behind 2 0 ws) last end (numbers ws) ≡ Err (of_shape fault)
@@ -111,11 +87,7 @@ module _ (last : Bool) (end : ℕ) (ws rest : List Token) (s : Survey)
 made_of : (some narrow : Bool) (w h : ℕ) (e : Edge) (g : Grid) → Ok g
     ≡ (if some then (if narrow then Err Narrow else Ok (record { width = w; height = h; edge = e })) else Err Side)
     → (some ≡ true) × (g.width ≡ w) × (g.height ≡ h)
-made_of true true w h e g is = absurd (cc)
-made_of true false w h e g is =
-    let same : g ≡ record { width = w; height = h; edge = e } = cc in
-    (refl, ap (λ (x : Grid). x.width) same, ap (λ (x : Grid). x.height) same)
-made_of false narrow w h e g is = absurd (cc)
+made_of some narrow w h e g is = grind (arith, usual)
 
 -- the sides are in range, so the number of sites fits
 record Fits (s : Survey) (g : Grid) : Type 0 where
@@ -125,36 +97,18 @@ record Fits (s : Survey) (g : Grid) : Type 0 where
   room : sites_of s ≡ sites g
 
 fits : (s : Survey) (g : Grid) → Ok g ≡ grid_with_edge s.width s.height s.edge → Fits s g
-fits s g is =
-    let made =
-    made_of (is_side s.width && is_side s.height) (joins s.edge && ltb s.width 3) s.width s.height s.edge g is in
-    let sides = and_parts (is_side s.width) (is_side s.height) made.0 in
-    let width : s.width ≤ 256 = grind (arith, nat_tests, sides.0) in
-    let height : s.height ≤ 256 = grind (arith, nat_tests, sides.1) in
-    let few : s.width * s.height ≤ 256 * 256 = mul-le-mul width height in
-    let area : s.width * s.height ≡ sites g = rw (made.1, made.2) refl in
-    record { width = sides.0; height = sides.1; area = area; room = omega arith }
+fits s g is = grind (arith, usual, made_of, and_parts, mul-le-mul)
 
 -- ---- the heights
 
 some_heights : (last : Bool) (count expected : ℕ) → is_count last count expected ≡ true → expected ≤ count
-some_heights true count expected e = grind (arith, nat_tests)
-some_heights false count expected e = grind (arith, nat_tests)
+some_heights last count expected e = grind (arith, usual)
 
 module _ (last : Bool) (end : ℕ) (ws rest : List Token) (s : Survey) (h : IsSurvey ws rest s) (ends : IsEnd last rest s)
     (g : Grid) (le : 2 ≤ s.count) (is : Ok g ≡ grid_with_edge s.width s.height s.edge) where
   -- the surveyed count is right if and only if the count of all numbers is
   same_count : is_count last (length (drop 2 (numbers ws))) (sites g) ≡ is_count last (s.count - 2) (sites g)
-  same_count = elim (by_end last rest s ends) [
-    | inl none ↦ ap (λ n. is_count last n (sites g))
-        (omega (arith, all_taken ws rest s h none, length-drop 2 (numbers ws)))
-    | inr full ↦
-        let area = (fits s g is).area in
-        let here : leb (sites g) (s.count - 2) ≡ true = grind (arith, nat_tests, full.1.count) in
-        let there : leb (sites g) (length (drop 2 (numbers ws))) ≡ true =
-        grind (arith, nat_tests, full.1.count, h.counted.within, length-drop 2 (numbers ws)) in
-        rw (full.0, here, there) refl
-  ]
+  same_count = grind (arith, usual, by_end, all_taken, length-drop, fits)
 
   pub wrong_count : is_count last (s.count - 2) (sites g) ≡ false
       → pile_at (edge_behind 2 0 ws) last end (numbers ws) ≡ Err Length
@@ -162,12 +116,7 @@ module _ (last : Bool) (end : ℕ) (ws rest : List Token) (s : Survey) (h : IsSu
 
   module _ (right : is_count last (s.count - 2) (sites g) ≡ true) where
     counted : s.grains ≡ min (sum (take (sites g) (drop 2 (numbers ws)))) (most_grains + 1)
-    counted =
-        let some = some_heights last (s.count - 2) (sites g) right in
-        let front : take (sites g) (noted s.count ws) ≡ take (sites g) (drop 2 (numbers ws)) =
-        take-take (sites g) (s.count - 2) (drop 2 (numbers ws)) some in
-        let room = (fits s g is).room in
-        rw (room, front) at h.grains
+    counted = grind (arith, usual, some_heights, take-take, fits)
 
     pub too_many : most_grains < s.grains → pile_at (edge_behind 2 0 ws) last end (numbers ws) ≡ Err TooManyGrains
     too_many more =

@@ -1,13 +1,13 @@
 -- One more byte of a token.
-use Rattle.std.proofs.Common.{◌≡◌, ◌≢◌, ℕ, ◌+◌, ◌*◌, ◌<◌, ◌≤◌, List, true, false, length, take, get_or, cond, eqb, refl, sym, ◌∙◌, ap, arith, eq-eqb}
+use Rattle.std.proofs.Common.{◌≡◌, ◌≢◌, ℕ, ◌+◌, ◌*◌, ◌<◌, ◌≤◌, List, true, false, length, take, get_or, cond, eqb, sym, arith, eq-eqb}
 use Rattle.std.proofs.lemmas.List.{length-take, take_more}
 use Rattle.std.proofs.lemmas.List.Folds.{position_or_len_push}
 use Rattle.std.proofs.lemmas.List.Sums.{position_or_len_is}
-use Rattle.std.proofs.lemmas.Bool.Decides.{nat_tests}
 use Rattle.std.proofs.lemmas.Int.Digits.{digits_value_more}
 use Rattle.std.specs.Str.Parse.{digits_value}
 use Rattle.std.specs.Char.{digit_value}
 use Rattle.sand_text.specs.Bytes.{is_digit, is_other, is_space, digits_len, token_len, capped}
+use Rattle.sand_text.proofs.Usual.{usual}
 
 -- a token ends at the first white space
 pub token_ends : (bs : List ℕ) (i : ℕ) → i ≤ length bs
@@ -18,40 +18,27 @@ token_ends bs i le before here = sym (position_or_len_is is_space bs i 0 le befo
 pushed : (bs : List ℕ) (i : ℕ) → i < length bs
     → digits_len (take (i + 1) bs)
     ≡ cond (eqb (digits_len (take i bs)) i) (i + cond (is_other (get_or bs i 0)) 0 1) (digits_len (take i bs))
-pushed bs i lt =
-    let len : length (take i bs) ≡ i = length-take i bs ∙ omega arith in
-    ap digits_len (take_more bs i 0 lt) ∙ (position_or_len_push is_other (take i bs) (get_or bs i 0) ∙ rw len refl)
+pushed bs i lt = grind (arith, usual, length-take, take_more, position_or_len_push)
 
 -- the byte continues the digits at the front
 pub more_digits : (bs : List ℕ) (i d : ℕ) → i < length bs
     → d ≡ digits_len (take i bs) → d ≡ i → is_digit (get_or bs i 0) ≡ true
     → d + 1 ≡ digits_len (take (i + 1) bs)
-more_digits bs i d lt e here digit =
-    let same : eqb (digits_len (take i bs)) i ≡ true = eq-eqb (digits_len (take i bs)) i (sym e ∙ here) in
-    let next = rw (same, digit) at (pushed bs i lt) in
-    omega arith
+more_digits bs i d lt e here digit = grind (arith, usual, eq-eqb, pushed)
 
 -- the byte is not a digit, or the digits at the front have already ended
 pub no_more_digits : (bs : List ℕ) (i d : ℕ) → i < length bs
     → d ≡ digits_len (take i bs) → is_digit (get_or bs i 0) ≡ false
     → d ≡ digits_len (take (i + 1) bs)
-no_more_digits bs i d lt e other =
-    let next = rw other at (pushed bs i lt) in
-    grind (arith, nat_tests)
+no_more_digits bs i d lt e other = grind (arith, usual, pushed)
 
 pub digits_ended : (bs : List ℕ) (i d : ℕ) → i < length bs → d ≡ digits_len (take i bs) → d ≢ i
     → d ≡ digits_len (take (i + 1) bs)
-digits_ended bs i d lt e behind =
-    let next = pushed bs i lt in
-    grind (arith, nat_tests)
+digits_ended bs i d lt e behind = grind (arith, usual, pushed)
 
 -- the value of one more digit
 pub more_value : (bs : List ℕ) (i d value more : ℕ) → i < length bs
     → d ≡ i → value ≡ capped (digits_value 10 (take d bs))
     → more ≡ capped (value * 10 + digit_value (get_or bs i 0))
     → more ≡ capped (digits_value 10 (take (d + 1) bs))
-more_value bs i d value more lt here so_far grown =
-    let place : digit_value (get_or bs d 0) ≡ digit_value (get_or bs i 0) =
-    ap (λ k. digit_value (get_or bs k 0)) here in
-    let next = digits_value_more 10 bs d (omega arith) in
-    omega arith
+more_value bs i d value more lt here so_far grown = grind (arith, usual, digits_value_more)

@@ -1,18 +1,18 @@
 -- The first strange byte of a text, by its tokens and by its bytes.
-use Rattle.std.proofs.Common.{◌≡◌, ℕ, ◌+◌, ◌-◌, ◌<◌, List, [], ◌∷◌, ◌++◌, true, false, not, ◌==◌, length, get_or, Option, Some, None, refl, sym, ◌∙◌, ap, arith, inl, inr, eqb, length-append}
+use Rattle.std.proofs.Common.{◌≡◌, ℕ, ◌+◌, ◌-◌, ◌<◌, List, [], ◌∷◌, ◌++◌, true, false, ◌==◌, length, get_or, Option, Some, None, refl, sym, ◌∙◌, ap, arith, inl, inr, length-append}
 use Rattle.std.specs.Prelude.{MatchOption, ◌⊎◌}
 use Rattle.std.specs.List.{All, list_any}
 use Rattle.std.specs.Str.Parse.{digits_value}
 use Rattle.std.proofs.lemmas.Bool.{cases_lt, cases_Bool, both_ways, and_right, cond_both, eqb-true}
-use Rattle.std.proofs.lemmas.Bool.Decides.{nat_tests}
 use Rattle.std.proofs.lemmas.List.{get_or_append_left, get_or-append_right, get_or-append-add}
 use Rattle.std.proofs.lemmas.List.Sums.{prefix_len-le-length, fails_before_first, passes_at_first}
 use Rattle.sand_text.specs.declared.tokens.Token.{Token}
 use Rattle.sand_text.specs.declared.tokens.Token.TheVariants.{Number, Letter, Strange}
-use Rattle.sand_text.specs.Bytes.{is_other, is_space, is_letter, digits_len, capped}
+use Rattle.sand_text.specs.Bytes.{is_other, is_space, digits_len, capped}
 use Rattle.sand_text.specs.Tokens.{token_of, tokens_at, tokens, first_strange}
 use Rattle.sand_text.specs.Laws.{is_strange, OnlyLetters, StrangeByte}
 use Rattle.sand_text.proofs.Cuts.{IsToken, by_tokens}
+use Rattle.sand_text.proofs.Usual.{usual}
 
 -- ---- what a token is
 
@@ -23,24 +23,11 @@ abbrev pub IsStrange : ℕ → List ℕ → Type 0
 IsStrange at w = (token_of at w ≡ Strange (at + digits_len w)) × (digits_len w < length w)
 
 one_byte : (w : List ℕ) → length w ≡ 1 → get_or w 0 0 ≡ 99 → w ≡ 99 ∷ []
-one_byte [] len first = absurd (omega arith)
-one_byte (x ∷ []) len first = ap (λ y. y ∷ []) first
-one_byte (x ∷ y ∷ more) len first = absurd (omega arith)
+one_byte w len first = grind (arith, usual)
 
 pub kind : (at : ℕ) (w : List ℕ) → IsNumber at w ⊎ ((w ≡ 99 ∷ []) ⊎ IsStrange at w)
 unfolding token_of
-kind at w = elim (cases_Bool (eqb (digits_len w) (length w))) [
-  | inl e ↦
-      let all : digits_len w ≡ length w = eqb-true (digits_len w) (length w) e in
-      inl (rw e refl, λ k d lt. fails_before_first is_other w k d (omega arith))
-  | inr e ↦ elim (cases_Bool (is_letter w)) [
-    | inl f ↦
-        let len : length w ≡ 1 = grind (arith, nat_tests, f) in
-        let first : get_or w 0 0 ≡ 99 = grind (arith, nat_tests, f) in
-        inr (inl (one_byte w len first))
-    | inr f ↦ inr (inr (rw (e, f) refl, grind (arith, nat_tests, e, prefix_len-le-length (λ b. not (is_other b)) w)))
-  ]
-]
+kind at w = grind (arith, usual, cases_Bool, eqb-true, fails_before_first, one_byte, prefix_len-le-length)
 
 -- ---- the first strange byte
 
@@ -91,17 +78,7 @@ at_letter at r ws rest spared n = cond_both (list_any (λ k. k == n) spared) _ _
 at_strange : (at : ℕ) (w r : List ℕ) → IsToken w r → digits_len w < length w
     → Claim at (w ++ r) (Some (at + digits_len w))
 at_strange at w r is lt =
-    let here = get_or_append_left w r 0 (digits_len w) lt in
-    let other = passes_at_first {X = ℕ} is_other w 0 lt in
-    let plain = is.plain (digits_len w) 0 lt in (
-      digits_len w,
-      refl,
-      omega (arith, lt, length-append w r),
-      ap is_strange here ∙ rw (other, plain) refl,
-      λ k below s. absurd (both_ways (is_strange (get_or w k 0))
-          (digit_passes (get_or w k 0) (fails_before_first is_other w k 0 below))
-          (sym (ap is_strange (get_or_append_left w r 0 k (omega arith))) ∙ s)),
-    )
+    grind (arith, usual, get_or_append_left, passes_at_first, both_ways, digit_passes, fails_before_first)
 
 at_token : (at : ℕ) (w r : List ℕ) (ws : List Token) → IsToken w r → Claims (at + length w) r ws
     → Claims at (w ++ r) (token_of at w ∷ ws)
@@ -127,9 +104,7 @@ found_at : (text : List ℕ) (found : Option ℕ) → Claim 0 text found
     → MatchOption found (OnlyLetters text (length text))
     (λ at. (at < length text) × (is_strange (get_or text at 0) ≡ true) × OnlyLetters text at)
 found_at text None h = h
-found_at text (Some p) h =
-    let same : p ≡ h.0 = omega (arith, h.1) in
-    rw same (h.2, h.3, h.4)
+found_at text (Some p) h = grind (arith, usual)
 
 pub strange_byte : StrangeByte
 strange_byte spared text = found_at text (first_strange spared 0 (tokens text)) (claims 0 text spared 0)

@@ -1,5 +1,5 @@
 -- One more token of a survey.
-use Rattle.std.proofs.Common.{◌≡◌, ◌≢◌, ℕ, suc, ◌+◌, ◌-◌, ◌<◌, ◌≤◌, ◌++◌, nat_le, List, [], ◌∷◌, true, false, length, take, drop, get_or, eqb, ltb, refl, sym, ◌∙◌, ap, arith, inl, inr, Option, Some, None, Bool, not, nat_lt, sum, subst}
+use Rattle.std.proofs.Common.{◌≡◌, ℕ, suc, ◌+◌, ◌-◌, ◌<◌, ◌≤◌, nat_le, List, [], ◌∷◌, true, false, length, take, drop, get_or, eqb, ltb, refl, sym, ◌∙◌, ap, arith, inl, inr, Option, Some, None, Bool, not, nat_lt, sum, subst}
 use Rattle.std.specs.Bool.{if◌then◌else◌, ◌==◌}
 use Rattle.std.proofs.lemmas.Bool.{cases_lt, cases_eq}
 use Rattle.std.proofs.lemmas.Bool.Decides.{nat_tests}
@@ -15,17 +15,15 @@ use Rattle.sand_text.specs.declared.tokens.Token.{Token}
 use Rattle.sand_text.specs.declared.tokens.Token.TheVariants.{Number, Letter, Strange}
 use Rattle.sand_text.specs.Bytes.{capped}
 use Rattle.sand_text.specs.Tokens.{first_strange, first_large, edge_behind, numbers}
-use Rattle.sand_text.specs.Surveys.{AgreeOnLetters, HasCounted, IsSurvey, IsStrangeAt, still_spared, sites_of, grains_with, if_no_site, noted}
+use Rattle.sand_text.specs.Surveys.{AgreeOnLetters, HasCounted, IsNoted, IsSurvey, IsStrangeAt, still_spared, sites_of, grains_with, if_no_site, noted}
 use Rattle.sand_text.proofs.Taking.{next_of}
 use Rattle.sand_text.proofs.Noting.{sum_push, no_site_push, noted-next, length-noted, noted-none}
 use Rattle.sand_model.specs.Piles.{most_grains}
+use Rattle.sand_text.proofs.Usual.{usual}
 
 large_next : (a : Option ℕ) (b : Bool) (start : ℕ) (later : Option ℕ)
     → option_or (option_or a (if b then Some start else None)) later ≡ option_or a (if b then Some start else later)
-large_next None true start later = refl
-large_next None false start later = refl
-large_next (Some at) true start later = refl
-large_next (Some at) false start later = refl
+large_next a b start later = grind (arith, usual)
 
 take-nil : (n : ℕ) → take {A = ℕ} n [] ≡ []
 take-nil n = take_all n [] (omega arith)
@@ -41,12 +39,7 @@ IsBehind ws s = (s.grains ≡ capped (sum (take (sites_of s) (noted s.count ws))
 -- one more side, and no number after the sides
 side_next : (ws : List Token) (s t : Survey) → s.count < 2 → t.count ≡ s.count + 1
     → IsBehind ws s → t.grains ≡ s.grains → t.no_site ≡ s.no_site → IsBehind ws t
-side_next ws s t low count so_far grains no_site =
-    let before : noted s.count ws ≡ [] = noted-none ws s.count (omega arith) in
-    let after : noted t.count ws ≡ [] = noted-none ws t.count (omega arith) in (
-      grains ∙ (rw (before, take-nil (sites_of s)) at so_far.0 ∙ rw (after, take-nil (sites_of t)) refl),
-      no_site ∙ (rw (before, drop-nil (sites_of s)) at so_far.1 ∙ rw (after, drop-nil (sites_of t)) refl),
-    )
+side_next ws s t low count so_far grains no_site = grind (arith, usual, noted-none, take-nil, drop-nil)
 
 -- one more number after the sides
 behind_next : (ws : List Token) (s t : Survey) (value : ℕ) → 2 ≤ s.count
@@ -56,23 +49,7 @@ behind_next : (ws : List Token) (s t : Survey) (value : ℕ) → 2 ≤ s.count
     → t.no_site ≡ option_or s.no_site (if_no_site s (s.count - 2) value)
     → IsBehind ws t
 behind_next ws s t value high lt here count same so_far grains no_site =
-    let next : noted t.count ws ≡ noted s.count ws ++ value ∷ [] =
-    ap (λ n. noted n ws) count ∙ noted-next ws s.count value high lt here in
-    let len = length-noted ws s.count (omega arith) in
-    let sums = rw len at (sum_push (sites_of s) value s.grains (noted s.count ws) so_far.0) in
-    let sites = rw len at (no_site_push (sites_of s) value s.no_site (noted s.count ws) so_far.1) in
-    (rw (next, same) (grains ∙ sums), rw (next, same) (no_site ∙ sites))
-
--- the survey after one more number
-pub record IsNoted (s t : Survey) (start value : ℕ) : Type 0 where
-  pub count : t.count ≡ s.count + 1
-  pub width : t.width ≡ (if s.count == 0 then value else s.width)
-  pub height : t.height ≡ (if s.count == 1 then value else s.height)
-  pub edge : t.edge ≡ s.edge
-  pub grains : t.grains ≡ (if nat_lt s.count 2 then s.grains else grains_with s (s.count - 2) value)
-  pub no_site : t.no_site
-      ≡ (if nat_lt s.count 2 then s.no_site else option_or s.no_site (if_no_site s (s.count - 2) value))
-  pub large : t.large ≡ option_or s.large (if nat_lt most_grains value then Some start else None)
+    grind (arith, usual, noted-next, length-noted, sum_push, no_site_push)
 
 -- a number, either a side or after the sides
 noted_step : (ws rest : List Token) (s t : Survey) (start value : ℕ) → IsSurvey ws (Number start value ∷ rest) s
@@ -171,10 +148,7 @@ letter_first : (e : Edge) (n at : ℕ) (rest : List Token) (more : List ℕ)
     → ((n ≡ 2) × (e ≡ Open) → ⊥) → All (λ k. n < k) more
     → first_strange (still_spared e more) n (Letter at ∷ rest) ≡ Some at
 unfolding first_strange
-letter_first Open n at rest more not_spared later =
-    let other : n ≢ 2 = λ two. not_spared (two, refl) in
-    let test : eqb 2 n ≡ false = grind (arith, nat_tests) in
-    rw (test, list_any_none (λ k. k == n) more (others n more later)) refl
+letter_first Open n at rest more not_spared later = grind (arith, usual, list_any_none, others)
 letter_first Cylinder n at rest more not_spared later = rw (list_any_none (λ k. k == n) more (others n more later)) refl
 
 -- a letter that is not allowed

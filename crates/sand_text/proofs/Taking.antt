@@ -1,6 +1,7 @@
 -- One more element taken from the front of a list.
-use Rattle.std.proofs.Common.{◌≡◌, ◌<◌, ℕ, suc, ◌+◌, List, [], ◌∷◌, ◌++◌, take, drop, length, get_or, ◌∙◌, ap, arith, sym, length-drop, drop-cons}
+use Rattle.std.proofs.Common.{◌≡◌, ◌<◌, ℕ, suc, ◌+◌, List, [], ◌∷◌, ◌++◌, take, drop, length, get_or, ap, arith, length-drop, drop-cons}
 use Rattle.std.proofs.lemmas.List.{take_more}
+use Rattle.sand_text.proofs.Usual.{usual}
 
 pub next_of : (ns rest : List ℕ) (k v : ℕ) → drop k ns ≡ v ∷ rest
     → (k < length ns) × (get_or ns k 0 ≡ v) × (drop (k + 1) ns ≡ rest)
@@ -13,7 +14,4 @@ next_of ns rest k v e =
 
 pub one_more : (ns rest taken more : List ℕ) (k v : ℕ) → drop k ns ≡ v ∷ rest
     → taken ≡ take k ns → more ≡ taken ++ v ∷ [] → more ≡ take (k + 1) ns
-one_more ns rest taken more k v e so_far grown =
-    let next = next_of ns rest k v e in
-    grown ∙ (ap (λ l. l ++ v ∷ []) so_far
-    ∙ (ap (λ x. take k ns ++ x ∷ []) (sym next.1) ∙ sym (take_more ns k 0 next.0)))
+one_more ns rest taken more k v e so_far grown = grind (arith, usual, next_of, take_more)

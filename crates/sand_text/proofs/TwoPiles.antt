@@ -1,5 +1,5 @@
 -- What the surveys of two piles say of a text with both.
-use Rattle.std.proofs.Common.{◌≡◌, ℕ, ◌+◌, ◌*◌, ◌<◌, ◌≤◌, List, [], ◌∷◌, Bool, true, false, length, drop, eqb, not, refl, sym, ◌∙◌, ap, arith, inl, inr, Some, None, slice_index, ◌||◌, sum, subst}
+use Rattle.std.proofs.Common.{◌≡◌, ℕ, ◌+◌, ◌<◌, ◌≤◌, List, [], ◌∷◌, Bool, true, false, length, drop, eqb, not, refl, sym, ◌∙◌, ap, arith, inl, inr, Some, None, slice_index, ◌||◌, sum, subst}
 use Rattle.std.specs.Prelude.{Ok, Err}
 use Rattle.std.specs.Bool.{if◌then◌else◌, ◌==◌}
 use Rattle.std.specs.List.{filter}
@@ -7,20 +7,20 @@ use Rattle.std.proofs.lemmas.Bool.Decides.{nat_tests}
 use Rattle.std.proofs.lemmas.List.{drop-drop}
 use Rattle.std.specs.Option.{option_or}
 use Rattle.sand_model.specs.declared.shape.Edge.{Edge}
-use Rattle.sand_model.specs.declared.shape.Edge.TheVariants.{Open, Cylinder}
-use Rattle.sand_model.specs.Grid.{Grid, is_side, sites}
+use Rattle.sand_model.specs.Grid.{Grid, sites}
 use Rattle.sand_text.specs.declared.fault.TextFault.{TextFault}
 use Rattle.sand_text.specs.declared.fault.TextFault.TheVariants.{TooLarge}
 use Rattle.sand_text.specs.declared.survey.Survey.{Survey}
 use Rattle.sand_text.specs.declared.tokens.Token.{Token}
 use Rattle.sand_text.specs.declared.tokens.Token.TheVariants.{Number, Letter, Strange}
 use Rattle.sand_text.specs.Bytes.{has_large}
-use Rattle.sand_text.specs.Tokens.{tokens, first_strange, first_large, edge_behind, numbers}
+use Rattle.sand_text.specs.Tokens.{tokens, first_strange, edge_behind, numbers}
 use Rattle.sand_text.specs.Reading.{plain_tokens, pile_at, unless_at, second_letter, second_spared, two_letters, two_of, heights_on, behind_heights, heights_behind}
 use Rattle.sand_text.specs.Surveys.{IsSurvey, IsFull, IsFront, IsFirstStrange, IsShaped, still_spared}
 use Rattle.sand_text.proofs.Shapes.{full_count, all_taken}
 use Rattle.sand_text.proofs.Readings.{large_is, one_each}
 use Rattle.sand_text.proofs.TwoWalks.{later_letter}
+use Rattle.sand_text.proofs.Usual.{usual}
 
 -- ---- counts from another number on
 
@@ -35,26 +35,21 @@ none_spared n m (Strange at ∷ ws) = refl
 one_letter : (b : Bool) (k l i j at : ℕ) (ws : List Token)
     → (if b || false then first_strange (if not b then k ∷ [] else []) i ws else Some at)
     ≡ (if b || false then first_strange (if not b then l ∷ [] else []) j ws else Some at)
-one_letter true k l i j at ws = none_spared i j ws
-one_letter false k l i j at ws = refl
+one_letter b k l i j at ws = grind (arith, usual, none_spared)
 
 -- a letter is as far behind if it is counted from another number on
 shifted : (k i l j : ℕ) (ws : List Token) → l + i ≡ k + j → first_strange (k ∷ []) i ws ≡ first_strange (l ∷ []) j ws
 unfolding first_strange
 shifted k i l j [] e = refl
 shifted k i l j (Number at value ∷ ws) e = shifted k (i + 1) l (j + 1) ws (omega arith)
-shifted k i l j (Letter at ∷ ws) e =
-    let same : eqb k i ≡ eqb l j = grind (arith, nat_tests) in
-    rw same (one_letter (eqb l j) k l i j at ws)
+shifted k i l j (Letter at ∷ ws) e = grind (arith, usual, one_letter)
 shifted k i l j (Strange at ∷ ws) e = refl
 
 edge_shifted : (k i l j : ℕ) (ws : List Token) → l + i ≡ k + j → edge_behind k i ws ≡ edge_behind l j ws
 unfolding edge_behind
 edge_shifted k i l j [] e = refl
 edge_shifted k i l j (Number at value ∷ ws) e = edge_shifted k (i + 1) l (j + 1) ws (omega arith)
-edge_shifted k i l j (Letter at ∷ ws) e =
-    let same : eqb k i ≡ eqb l j = grind (arith, nat_tests) in
-    rw (same, edge_shifted k i l j ws e) refl
+edge_shifted k i l j (Letter at ∷ ws) e = grind (arith, usual, edge_shifted k i l j ws e)
 edge_shifted k i l j (Strange at ∷ ws) e = edge_shifted k i l j ws e
 
 -- after more than two numbers the first letter is no longer allowed
@@ -70,8 +65,7 @@ spared_later more n (Strange at ∷ ws) lt = refl
 
 still_later : (e : Edge) (more : List ℕ) (n : ℕ) (ws : List Token) → 2 < n
     → first_strange (still_spared e more) n ws ≡ first_strange more n ws
-still_later Open more n ws lt = spared_later more n ws lt
-still_later Cylinder more n ws lt = refl
+still_later e more n ws lt = grind (arith, usual, spared_later)
 
 -- ---- from the first pile to the second
 
@@ -79,23 +73,11 @@ still_later Cylinder more n ws lt = refl
 letter_of_full : (ns : List ℕ) (s : Survey) → 2 ≤ length ns
     → s.width ≡ slice_index ns 0 → s.height ≡ slice_index ns 1 → IsFull s
     → second_letter false ns ≡ (2 + s.count) ∷ []
-letter_of_full [] s le width height full = absurd (omega arith)
-letter_of_full (w ∷ []) s le width height full = absurd (omega arith)
-letter_of_full (w ∷ h ∷ ns) s le width height full =
-    let is_width : is_side w ≡ true = rw (sym width) full.width in
-    let is_height : is_side h ≡ true = rw (sym height) full.height in
-    let area : s.width * s.height ≡ w * h = rw (width, height) refl in
-    let place : w * h + 4 ≡ 2 + s.count = omega (arith, full.count) in
-    rw (is_width, is_height, place) refl
+letter_of_full ns s le width height full = grind (arith, usual)
 
 behind_full : (over : Bool) (ws rest : List Token) (s : Survey) → IsFront ws rest s → IsFull s
     → first_strange (second_letter over (numbers ws)) s.count rest ≡ first_strange (if over then [] else 2 ∷ []) 0 rest
-behind_full true ws rest s h full = none_spared s.count 0 rest
-behind_full false ws rest s h full =
-    let many = full_count s full in
-    let letter = letter_of_full (numbers ws) s (omega (arith, h.underway.counted.within))
-    (h.underway.counted.width (omega arith)) (h.underway.counted.height (omega arith)) full in
-    rw letter (shifted (2 + s.count) s.count 2 0 rest (omega arith))
+behind_full over ws rest s h full = grind (arith, usual, none_spared, full_count, letter_of_full, shifted)
 
 handed : (over : Bool) (ws rest : List Token) (s : Survey) → IsFront ws rest s
     → first_strange (2 ∷ second_letter over (numbers ws)) 0 ws ≡ first_strange (if over then [] else 2 ∷ []) 0 rest
@@ -123,10 +105,7 @@ pub plain_two : (text : List ℕ) (rest : List Token) (first second : Survey)
     → first_strange (second_spared text) 0 rest ≡ None
     → plain_tokens (two_letters text) text
     ≡ unless_at (option_or first.large second.large) TooLarge (Ok (tokens text))
-plain_two text rest first second h g plain =
-    let large : first_large (tokens text) ≡ option_or first.large second.large =
-    sym h.underway.large ∙ ap (option_or first.large) (large_is rest second g) in
-    rw (handed (has_large text) (tokens text) rest first h ∙ plain, large) refl
+plain_two text rest first second h g plain = grind (arith, usual, large_is, handed)
 
 pub front_tokens : (ws vs rest : List Token) (s : Survey) → ws ≡ vs → IsFront ws rest s → IsFront vs rest s
 front_tokens ws vs rest s e h = let P : List Token → Type 0 = λ l. IsFront l rest s in subst P e h
@@ -136,13 +115,7 @@ front_tokens ws vs rest s e h = let P : List Token → Type 0 = λ l. IsFront l 
 -- the first survey ends at the pile's last height
 counted : (end : ℕ) (ws rest : List Token) (s : Survey) (g : Grid) → IsFront ws rest s → IsShaped false end ws s g
     → s.count ≡ 2 + sites g
-counted end ws rest s g h shaped = elim h.end [
-  | inl none ↦
-      let all = all_taken ws rest s h.underway none in
-      let few = h.within (omega (arith, shaped.enough)) shaped.width shaped.height in
-      omega (arith, shaped.enough, shaped.area)
-  | inr full ↦ omega (arith, full.count, shaped.area)
-]
+counted end ws rest s g h shaped = grind (arith, usual, all_taken)
 
 behind_first : (end : ℕ) (ws rest : List Token) (s : Survey) (g : Grid) → IsFront ws rest s → IsShaped false end ws s g
     → drop (sites g) (drop 2 (numbers ws)) ≡ numbers rest
@@ -152,10 +125,7 @@ behind_first end ws rest s g h shaped =
 
 second_edge : (end : ℕ) (ws rest : List Token) (s : Survey) (g : Grid) → IsFront ws rest s → IsShaped false end ws s g
     → edge_behind (sites g + 4) 0 ws ≡ edge_behind 2 0 rest
-second_edge end ws rest s g h shaped =
-    let place = counted end ws rest s g h shaped in
-    sym (h.underway.letters.later_edge (sites g + 4) (omega arith))
-    ∙ edge_shifted (sites g + 4) s.count 2 0 rest (omega arith)
+second_edge end ws rest s g h shaped = grind (arith, usual, counted, edge_shifted)
 
 -- ---- both piles
 
@@ -164,10 +134,7 @@ second_of : (text : List ℕ) (rest : List Token) (s : Survey) (g : Grid)
     → IsFront (tokens text) rest s → IsShaped false (length text) (tokens text) s g
     → pile_at (edge_behind (sites g + 4) 0 (tokens text)) true (length text) (behind_heights g text)
     ≡ pile_at (edge_behind 2 0 rest) true (length text) (numbers rest)
-second_of text rest s g h shaped = rw (
-  second_edge (length text) (tokens text) rest s g h shaped,
-  behind_first (length text) (tokens text) rest s g h shaped,
-) refl
+second_of text rest s g h shaped = grind (arith, usual, second_edge, behind_first)
 
 pub misshapen_second : (text : List ℕ) (rest : List Token) (s : Survey) (g : Grid) (e : TextFault)
     → plain_tokens (two_letters text) text ≡ Ok (tokens text)
@@ -175,8 +142,7 @@ pub misshapen_second : (text : List ℕ) (rest : List Token) (s : Survey) (g : G
     → pile_at (edge_behind 2 0 rest) true (length text) (numbers rest) ≡ Err e
     → two_of text ≡ Err e
 unfolding two_of
-misshapen_second text rest s g e plain h shaped is =
-    rw (plain, shaped.read, second_of text rest s g h shaped ∙ is) refl
+misshapen_second text rest s g e plain h shaped is = grind (arith, usual, second_of)
 
 pub good_two : (text : List ℕ) (rest : List Token) (first second : Survey) (g k : Grid)
     → plain_tokens (two_letters text) text ≡ Ok (tokens text)
@@ -186,12 +152,7 @@ pub good_two : (text : List ℕ) (rest : List Token) (first second : Survey) (g 
     → two_of text
     ≡ Ok (record { grid = g; heights = heights_on g text }, record { grid = k; heights = heights_behind g k text })
 unfolding two_of
-good_two text rest first second g k plain h shaped next = rw (
-  plain,
-  shaped.read,
-  second_of text rest first g h shaped ∙ next.read,
-  sym (behind_first (length text) (tokens text) rest first g h shaped),
-) refl
+good_two text rest first second g k plain h shaped next = grind (arith, usual, second_of, behind_first)
 
 -- what is known of the second pile, in terms of the text
 pub second_facts : (text : List ℕ) (rest : List Token) (first second : Survey) (g k : Grid)
@@ -200,6 +161,4 @@ pub second_facts : (text : List ℕ) (rest : List Token) (first second : Survey)
     → IsShaped true (length text) rest second k
     → (2 + sites k ≤ length (behind_heights g text)) × (length (heights_behind g k text) ≡ sites k)
     × (second.grains ≡ sum (heights_behind g k text))
-second_facts text rest first second g k h shaped next =
-    rw (behind_first (length text) (tokens text) rest first g h shaped)
-    (next.enough, one_each true (length text) rest second k next, next.grains)
+second_facts text rest first second g k h shaped next = grind (arith, usual, behind_first, one_each)

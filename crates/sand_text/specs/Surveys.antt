@@ -1,5 +1,5 @@
 -- What the pass over a text's tokens knows at each token.
-use Rattle.std.specs.Prelude.{◌≡◌, ℕ, ◌+◌, ◌-◌, ◌*◌, ◌^◌, ◌<◌, ◌≤◌, ◌⊎◌, List, [], ◌∷◌, Bool, true, false, All, IsTrue, nat_lt, nat_le, min, length, take, drop, sum, position, slice_index, Option, Some, None, Ok, if◌then◌else◌}
+use Rattle.std.specs.Prelude.{◌≡◌, ℕ, ◌+◌, ◌-◌, ◌*◌, ◌^◌, ◌<◌, ◌≤◌, ◌⊎◌, List, [], ◌∷◌, Bool, true, false, ◌==◌, All, IsTrue, nat_lt, nat_le, min, length, take, drop, sum, position, slice_index, Option, Some, None, Ok, if◌then◌else◌}
 use Rattle.std.specs.Option.{option_or}
 use Rattle.sand_model.specs.declared.shape.Edge.{Edge}
 use Rattle.sand_model.specs.declared.shape.Edge.TheVariants.{Open, Cylinder}
@@ -36,6 +36,17 @@ grains_with s index value = if nat_lt index (sites_of s) then capped (s.grains +
 abbrev pub if_no_site : Survey → ℕ → ℕ → Option ℕ
 if_no_site s index value =
     if nat_lt index (sites_of s) then None else (if nat_le (sites_of s) value then Some (index - sites_of s) else None)
+
+-- the survey t is s after one more number, whose token starts at `start`
+pub record IsNoted (s t : Survey) (start value : ℕ) : Type 0 where
+  pub count : t.count ≡ s.count + 1
+  pub width : t.width ≡ (if s.count == 0 then value else s.width)
+  pub height : t.height ≡ (if s.count == 1 then value else s.height)
+  pub edge : t.edge ≡ s.edge
+  pub grains : t.grains ≡ (if nat_lt s.count 2 then s.grains else grains_with s (s.count - 2) value)
+  pub no_site : t.no_site
+      ≡ (if nat_lt s.count 2 then s.no_site else option_or s.no_site (if_no_site s (s.count - 2) value))
+  pub large : t.large ≡ option_or s.large (if nat_lt most_grains value then Some start else None)
 
 -- the numbers after the sides, among the first `count`
 abbrev pub noted : ℕ → List Token → List ℕ

@@ -2,12 +2,11 @@
 //!
 //! A survey keeps only what the faults require, and no list. So every fault is found before anything is allocated.
 
-ghost use Rattle.std.specs.Prelude.{◌≡◌, ℕ, ◌+◌, ◌-◌, ◌^◌, List, [], ◌∷◌, Bool, ◌<◌, ◌≤◌, ◌↔◌, ◌==◌, nat_lt, IsTrue, IfOk, IfErr, OnOk, if◌then◌else◌};
+ghost use Rattle.std.specs.Prelude.{◌≡◌, ℕ, ◌+◌, ◌^◌, List, [], ◌∷◌, ◌<◌, ◌≤◌, ◌↔◌, IsTrue, IfOk, IfErr, OnOk, if◌then◌else◌};
 ghost use Rattle.std.specs.Option.{option_or};
 ghost use Rattle.sand_text.specs.Tokens.{tokens, edge_behind, numbers};
 ghost use Rattle.sand_text.specs.Reading.{is_count, pile_at, plain_tokens};
-ghost use Rattle.sand_text.specs.Surveys.{IsSurvey, IsStrangeAt, IsFull, IsEnd, IsShaped, edge_with, sites_of, grains_with, if_no_site};
-ghost use Rattle.sand_model.specs.Piles.{most_grains};
+ghost use Rattle.sand_text.specs.Surveys.{IsNoted, IsSurvey, IsStrangeAt, IsFull, IsEnd, IsShaped, edge_with, sites_of, grains_with, if_no_site};
 
 use crate::fault::TextFault;
 use crate::tokens::{Token, Tokens};
@@ -83,17 +82,7 @@ impl Survey {
     // Takes a number whose token starts at `start`.
     fn note(&mut self, start: usize, value: u64)
         requires { self.old.count < 2 ^ 63 }
-        ensures count { self.new.count ≡ self.old.count + 1 }
-        ensures width { self.new.width ≡ (if self.old.count == 0 then value else self.old.width) }
-        ensures height { self.new.height ≡ (if self.old.count == 1 then value else self.old.height) }
-        ensures edge { self.new.edge ≡ self.old.edge }
-        ensures grains { self.new.grains
-            ≡ (if nat_lt self.old.count 2 then self.old.grains else grains_with self.old (self.old.count - 2) value) }
-        ensures no_site { self.new.no_site ≡ (if nat_lt self.old.count 2
-            then self.old.no_site
-            else option_or self.old.no_site (if_no_site self.old (self.old.count - 2) value)) }
-        ensures large { self.new.large
-            ≡ option_or self.old.large (if nat_lt most_grains value then Some start else None) }
+        ensures { IsNoted self.old self.new start value }
     {
         match self.count {
             0 => self.width = value,
@@ -174,25 +163,16 @@ impl Survey {
     }
 }
 
-// The survey of all tokens of a text, or Text at the first strange byte.
-fn survey_of(text: &[u8]) -> Result<Survey, TextFault>
-    ensures ok { IfOk result (IsSurvey (tokens text.now) []) }
-    ensures err { IfErr result (λ e. plain_tokens (2 ∷ []) text.now ≡ Err e) }
-{
-    let mut survey = Survey::new();
-    for token in Tokens::new(text) {
-        survey.take(token)?;
-    }
-    Ok(survey)
-}
-
 /// The survey of a whole text; else Text at the first strange byte, else TooLarge at the first number over the limit.
 pub(crate) fn plain_survey(text: &[u8]) -> Result<Survey, TextFault>
     ensures ok { IfOk result (IsSurvey (tokens text.now) []) }
     ensures plain { IfOk result (λ s. plain_tokens (2 ∷ []) text.now ≡ Ok (tokens text.now)) }
     ensures err { IfErr result (λ e. plain_tokens (2 ∷ []) text.now ≡ Err e) }
 {
-    let survey = survey_of(text)?;
+    let mut survey = Survey::new();
+    for token in Tokens::new(text) {
+        survey.take(token)?;
+    }
     match survey.large {
         Some(at) => Err(TextFault::TooLarge(at)),
         None => Ok(survey),

@@ -1,6 +1,6 @@
 //! The table of the avalanches of drops.
 
-ghost use Rattle.std.specs.Prelude.{◌≡◌, ◌++◌, IfOk, OnOk};
+ghost use Rattle.std.specs.Prelude.{◌≡◌, IfOk};
 ghost use Rattle.sand_text.specs.Tables.{entry_text, table_head, table_text_of};
 ghost use Rattle.sand_text.specs.Texts.{row_text};
 
@@ -29,12 +29,6 @@ pub(crate) fn fields_of(number: u64, avalanche: Avalanche) -> [u64; 6]
     ]
 }
 
-fn push_entry(text: &mut Vec<u8>, number: u64, avalanche: Avalanche) -> Result<(), AllocError>
-    ensures { OnOk result (text.new.items ≡ text.old.items ++ entry_text (number, avalanche)) }
-{
-    push_row(text, &fields_of(number, avalanche))
-}
-
 /// The first line of a table, which names its columns.
 pub fn table_head() -> &'static [u8]
     ensures { result.now ≡ table_head }
@@ -49,7 +43,7 @@ pub fn table_text(alloc: Global, rows: &[(u64, Avalanche)]) -> Result<Vec<u8>, A
     let mut text = Vec::new(alloc);
     text.extend_from_slice(table_head())?;
     for (number, avalanche) in rows {
-        push_entry(&mut text, *number, *avalanche)?;
+        push_row(&mut text, &fields_of(*number, *avalanche))?;
     }
     Ok(text)
 }

@@ -1,4 +1,4 @@
-use Rattle.std.proofs.Common.{◌∙◌, ℕ, ◌+◌, ◌<◌, ap, arith, get_or}
+use Rattle.std.proofs.Common.{◌∙◌, ℕ, ◌+◌, ◌≤◌, ap, arith, get_or}
 use Rattle.sand_model.specs.Grid.{sites}
 use Rattle.sand_certify.specs.Certificate.{IsLeftAt}
 use Rattle.sand_certify.proofs.Pushed.{pushed}
@@ -18,11 +18,8 @@ loop-site-preserved c = record {
 
 pub returns-clause-settled : goal.returns-clause-settled
 returns-clause-settled c =
-    let left : (i : ℕ) → i < sites c.args.lattice.now
-    → IsLeftAt c.args.lattice.now (λ j. get_or c.args.start.now j 0) (λ j. get_or c.args.counts.now j 0)
-    (λ j. get_or c.args.turns.now j 0) i (get_or c.loop-site.heights.items i 0) =
-    λ i l. c.loop-site.invariant.left i (omega (arith, c.sites-sites.ensures.value, ap sites c.shape.ensures.value)) in
-    settled_if_left c.args.lattice.now (λ j. get_or c.args.start.now j 0) (λ j. get_or c.args.counts.now j 0)
-    (λ j. get_or c.loop-site.heights.items j 0) (λ j. get_or c.args.turns.now j 0)
-    (record { each = λ i l. (left i l).shown })
-    (record { balance = λ i l. (left i l).balance })
+    let all : sites c.args.lattice.now ≤ c.loop-site.site =
+    omega (arith, c.sites-sites.ensures.value, ap sites c.shape.ensures.value) in
+    let left = c.loop-site.invariant.left in
+    settled_if_left c.args.lattice.now _ _ _ (λ j. get_or c.args.turns.now j 0)
+    (record { each = λ i l. (left i (omega arith)).shown }) (record { balance = λ i l. (left i (omega arith)).balance })

@@ -1,8 +1,6 @@
-use Rattle.std.proofs.Common.{◌≡◌, ◌∙◌, ap, codes, true}
-use Rattle.clap.specs.Words.{app_of}
+use Rattle.std.proofs.Common.{◌∙◌, ap, true}
 use Rattle.clap.specs.Simple.{Shape, app_of_fields, on_top}
-use Rattle.sand_cli.specs.Line.{bare_line, command_line, wanting_command}
-use Rattle.sand_cli.proofs.Lines.{command_more}
+use Rattle.sand_cli.specs.Line.{command_line}
 use Rattle.sand_cli.proofs.line.command_line.Goals as goal
 
 pub returns : goal.returns
@@ -10,10 +8,12 @@ unfolding command_line
 returns c =
     let required : Shape → Shape = λ s. record s { subcommand_required = true } in
     let helpless : Shape → Shape = λ s. record s { disable_help_subcommand = true } in
-    let wanting : app_of c.subcommand_required.result ≡ on_top required (bare_line (codes "sandpile")) =
-    ap app_of_fields c.subcommand_required.ensures ∙ ap (on_top required) c.program_line.ensures in
-    let top_is : app_of c.disable_help_subcommand-top.result ≡ wanting_command (bare_line (codes "sandpile")) =
-    ap app_of_fields c.disable_help_subcommand-top.ensures ∙ ap (on_top helpless) wanting in
-    let with_first_four = c.with_first_four-line.ensures _ top_is in
-    let with_next_four = c.with_next_four-line.ensures _ with_first_four in
-    command_more _ _ _ _ _ c.with_command.ensures with_next_four c.lab_line.ensures
+    let top_is = ap app_of_fields c.disable_help_subcommand-top.ensures ∙ ap (on_top helpless)
+    (ap app_of_fields c.subcommand_required.ensures ∙ ap (on_top required) c.program_line.ensures) in
+    let with_drops = c.with_command-line-4.ensures _ _ (c.with_command-line-3.ensures _ _
+    (c.with_command-line-2.ensures _ _ (c.with_command-line.ensures _ _ top_is c.settle_line.ensures)
+    c.bare_line.ensures) c.identity_line.ensures) c.drops_line.ensures in
+    let with_recurrent = c.with_command-line-8.ensures _ _ (c.with_command-line-7.ensures _ _
+    (c.with_command-line-6.ensures _ _ (c.with_command-line-5.ensures _ _ with_drops c.pgm_line.ensures)
+    c.pgm_line-2.ensures) c.multiple_line.ensures) c.pgm_line-3.ensures in
+    c.with_command.ensures _ _ with_recurrent c.lab_line.ensures

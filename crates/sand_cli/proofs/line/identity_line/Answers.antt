@@ -1,8 +1,5 @@
 use Rattle.sand_cli.proofs.line.identity_line.Goals as goal
 
 pub returns : goal.returns
-returns c =
-    let with_width = c.with_side-line.ensures _ c.bare_line.ensures in
-    let with_height = c.with_side-line-2.ensures _ with_width in
-    let with_cylinder = c.with_flag-line.ensures _ with_height in
-    c.with_pgm.ensures _ with_cylinder
+returns c = c.with_flag.ensures _ (c.with_flag-line.ensures _
+    (c.with_required-line-2.ensures _ (c.with_required-line.ensures _ c.bare_line.ensures)))

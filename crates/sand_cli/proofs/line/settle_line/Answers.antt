@@ -1,6 +1,4 @@
 use Rattle.sand_cli.proofs.line.settle_line.Goals as goal
 
 pub returns : goal.returns
-returns c =
-    let with_pile = c.with_pile-line.ensures _ c.bare_line.ensures in
-    c.with_pgm.ensures _ with_pile
+returns c = c.with_flag.ensures _ (c.with_flag-line.ensures _ c.bare_line.ensures)

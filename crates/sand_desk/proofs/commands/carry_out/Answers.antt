@@ -1,4 +1,5 @@
-use Rattle.std.proofs.Common.{◌≡◌, sym, subst}
+use Rattle.std.proofs.lemmas.Grind.{common_steps}
+use Rattle.std.proofs.Common.{arith, ◌≡◌, sym, subst}
 use Rattle.std.proofs.lemmas.Result.{err_from_is_err_and}
 use Rattle.std.specs.Prelude.{Option, Some}
 use Rattle.std.specs.Result.{IfErr}
@@ -19,8 +20,4 @@ returns-in-Drops-Some-default-clause-fault g c =
     rw c.in-Drops-Some-default.is (subst P (sym drawn) c.drawn_drops.ensures.fault)
 
 pub returns-in_err-text-clause-fault : goal.returns-in_err-text-clause-fault
-returns-in_err-text-clause-fault g c =
-    let p = err_from_is_err_and c.from_residual.result c.from_residual.ensures.1 in
-    rw (p.1, p.2)
-    (found_first (IsTextOf c.args.task c.args.input.now) (IsFaultOf c.args.task c.args.input.now)
-    (g.W.Write.contents c.args.writer.now) _ c.in_err-text.ensures.fault)
+returns-in_err-text-clause-fault g c = grind (arith, common_steps, err_from_is_err_and, found_first)

@@ -1,5 +1,7 @@
+use Rattle.std.proofs.lemmas.Grind.{common_steps}
+use Rattle.std.proofs.Common.{arith}
 use Rattle.std.specs.Prelude.{map, string_bytes}
-use Rattle.std.proofs.lemmas.Result.{IfErr-weaker, IfOk-weaker, err_from_is_err_and}
+use Rattle.std.proofs.lemmas.Result.{IfErr-weaker, err_from_is_err_and}
 use Rattle.sand_desk.specs.Commands.{Call, IsRead, call_of}
 use Rattle.sand_desk.proofs.Endings.{keeps, reading_ends, work_ends, work_no_help}
 use Rattle.sand_desk.proofs.commands.run_gated_command.Goals as goal
@@ -13,24 +15,6 @@ returns-in_err-input-clause-fault g c =
     (g.R.Read.remaining c.args.reader.now) (g.R.Read.remaining c.take_input.new.reader) held held)
     c.in_ok-task.task _ c.in_ok-task.ensures.ok c.in_err-input.ensures.reads c.in_err-input.ensures.fault
     (λ e. c.in_err-input.ensures.too_long cc) c.in_err-input.ensures.failed (keeps held))
-
-pub returns-clause-done : goal.returns-clause-done
-returns-clause-done g c =
-    let done = rw c.as_slice.ensures.value at c.carry_out.ensures.done in
-    IfOk-weaker c.carry_out.result _ _
-    (λ _ whole. record {
-      task = c.in_ok-task.task;
-      input = c.in_ok-input.input.items;
-      text = whole.text;
-      read = record {
-        is_asked = c.in_ok-task.ensures.ok;
-        all = c.in_ok-input.ensures.taken;
-        within = c.in_ok-input.ensures.within;
-      };
-      answer = whole.answer;
-      written = whole.written;
-    })
-    done
 
 pub returns-clause-fault : goal.returns-clause-fault
 returns-clause-fault g c =
@@ -47,13 +31,7 @@ returns-clause-fault g c =
     (λ fault failed. work_ends call c.in_ok-task.task c.in_ok-input.input.items fault read failed) ends
 
 pub returns-clause-help : goal.returns-clause-help
-returns-clause-help g c =
-    IfErr-weaker c.carry_out.result _ _
-    (λ fault failed. (work_no_help (map string_bytes c.args.words.now) _ _ _ _ fault failed).0)
-    c.carry_out.ensures.fault
+returns-clause-help g c = grind (arith, common_steps, IfErr-weaker, work_no_help)
 
 pub returns-clause-told : goal.returns-clause-told
-returns-clause-told g c =
-    IfErr-weaker c.carry_out.result _ _
-    (λ fault failed. (work_no_help (map string_bytes c.args.words.now) _ _ _ _ fault failed).1)
-    c.carry_out.ensures.fault
+returns-clause-told g c = grind (arith, common_steps, IfErr-weaker, work_no_help)

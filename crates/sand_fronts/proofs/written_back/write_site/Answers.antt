@@ -10,19 +10,19 @@ use Rattle.sand_fronts.proofs.written_back.write_site.Goals as goal
 
 pub give-requires-clause-inside : goal.give-requires-clause-inside
 give-requires-clause-inside c =
-    place_inside c.args.shape c.args.site _ 0 _ c.neighbours.ensures c.requires.site c.requires.len.0
+    place_inside c.args.shape c.args.site _ 0 _ c.neighbours_in.ensures c.requires.site c.requires.len.0
 
 pub give-requires-2-clause-inside : goal.give-requires-2-clause-inside
 give-requires-2-clause-inside c =
-    place_inside c.args.shape c.args.site _ 1 _ c.neighbours.ensures c.requires.site (omega (arith, c.requires.len.0))
+    place_inside c.args.shape c.args.site _ 1 _ c.neighbours_in.ensures c.requires.site (omega (arith, c.requires.len.0))
 
 pub give-requires-3-clause-inside : goal.give-requires-3-clause-inside
 give-requires-3-clause-inside c =
-    place_inside c.args.shape c.args.site _ 2 _ c.neighbours.ensures c.requires.site (omega (arith, c.requires.len.0))
+    place_inside c.args.shape c.args.site _ 2 _ c.neighbours_in.ensures c.requires.site (omega (arith, c.requires.len.0))
 
 pub give-requires-4-clause-inside : goal.give-requires-4-clause-inside
 give-requires-4-clause-inside c =
-    place_inside c.args.shape c.args.site _ 3 _ c.neighbours.ensures c.requires.site (omega (arith, c.requires.len.0))
+    place_inside c.args.shape c.args.site _ 3 _ c.neighbours_in.ensures c.requires.site (omega (arith, c.requires.len.0))
 
 -- one site topples, and its four places gain one after another
 pub returns-clause-follows : goal.returns-clause-follows
@@ -40,7 +40,7 @@ returns-clause-follows c =
           let same =
           flow_same g (risen u v) (λ i. c.args.times * one_at site i) (λ i m. omega (arith, counts i)) j inside in
           let four = ap (λ m. c.args.times * m)
-          (four_places g site j c.neighbours.result c.neighbours.ensures c.requires.site inside) in
+          (four_places g site j c.neighbours_in.result c.neighbours_in.ensures c.requires.site inside) in
           omega (
             arith,
             flow-scale g c.args.times (one_at site) j,

@@ -4,7 +4,8 @@ use Rattle.std.specs.Int.{trailing_zeros}
 use Rattle.sand_tiles.specs.Places.{bit}
 use Rattle.sand_tiles.proofs.Bits.{bit_le, bit_none}
 use Rattle.sand_fronts.specs.Tiling.{place_of, site_on}
-use Rattle.sand_fronts.proofs.OnTiles.{place_below, there_again}
+use Rattle.sand_fronts.specs.declared.reach.Spot.{Spot}
+use Rattle.sand_fronts.proofs.OnTiles.{place_below, column_there, there_again}
 use Rattle.sand_fronts.proofs.Reached.{taken, fewer_left}
 use Rattle.sand_fronts.proofs.WrittenBack.{follows_none, follows_more, IsNext, tile_more}
 use Rattle.sand_fronts.proofs.written_back.write_tile.Goals.{After-site_in-site}
@@ -36,10 +37,21 @@ next c =
     let there = there_again c.args.shape c.args.k p gone.inside has in
     let same : c.site_in-site.result ≡ site_on c.args.shape c.args.k p =
     rw (c.site_in-site.ensures, c.corner-corner.ensures.value) refl in
-    record { taken = gone; inside = rw same there.0; tile = rw same there.1; at_place = rw same there.2 }
+    record {
+      taken = gone;
+      inside = rw same there.0;
+      tile = rw same there.1;
+      at_place = rw same there.2;
+      at_column = rw same (column_there c.args.shape c.args.k p has);
+    }
 
 pub write_site-requires-clause-site : goal.write_site-requires-clause-site
 write_site-requires-clause-site c = (next (goal.at.write_site-requires-clause-site c).After-site_in-site).inside
+
+pub write_site-requires-clause-column : goal.write_site-requires-clause-column
+write_site-requires-clause-column c =
+    let n = next (goal.at.write_site-requires-clause-column c).After-site_in-site in
+    omega (arith, n.at_column, ap (λ (s : Spot). s.column) c.corner-corner.ensures.value)
 
 pub write_site-requires-clause-bound : goal.write_site-requires-clause-bound
 write_site-requires-clause-bound c =

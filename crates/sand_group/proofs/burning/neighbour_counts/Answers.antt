@@ -1,7 +1,8 @@
-use Rattle.std.proofs.Common.{ℕ, length, ap, arith}
+use Rattle.std.proofs.Common.{ℕ, ◌≡◌, ◌+◌, length, ap, arith}
 use Rattle.std.proofs.lemmas.List.{length_push}
-use Rattle.sand_model.specs.Grid.{sites}
-use Rattle.sand_group.proofs.FireLeavesForbidden.{missing_at_most_four, counts_none, counts_push}
+use Rattle.sand_model.specs.Grid.{sites, missing}
+use Rattle.sand_certify.proofs.Pushed.{pushed}
+use Rattle.sand_group.proofs.FireLeavesForbidden.{missing_at_most_four, counts_none}
 use Rattle.sand_group.proofs.burning.neighbour_counts.Goals as goal
 
 pub overflow_sub-missing : goal.overflow_sub-missing
@@ -13,8 +14,9 @@ loop-site-preserved c =
     record {
       len =
           omega (arith, ap length c.in_ok-push.ensures.items, length_push {X = ℕ}, c.loop-site.invariant.len);
-      counts = rw c.in_ok-push.ensures.items (counts_push c.args.lattice.now c.loop-site.counts.items c.loop-site.site
-          _ c.loop-site.invariant.len c.loop-site.invariant.counts (omega (arith, c.missing.ensures)));
+      counts = pushed (λ k n. n + missing c.args.lattice.now k ≡ 4) c.loop-site.counts.items _ c.loop-site.site
+          c.in_ok-push.ensures.items c.loop-site.invariant.len c.loop-site.invariant.counts
+          (omega (arith, c.missing.ensures));
     }
 
 pub returns-clause-counts : goal.returns-clause-counts

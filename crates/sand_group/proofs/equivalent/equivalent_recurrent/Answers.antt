@@ -2,7 +2,7 @@ use Rattle.std.proofs.Common.{◌∙◌, ap}
 use Rattle.sand_model.specs.Piles.{PileView, height_of}
 use Rattle.sand_settle.specs.Settling.{odometer_of}
 use Rattle.sand_group.specs.Group.{IsEquivalentRecurrent}
-use Rattle.sand_group.proofs.OperationsOnHeights.{equivalent_settles, equivalent_itself, recurrent_of}
+use Rattle.sand_group.proofs.OperationsOnHeights.{equivalent_settles, equivalent_itself}
 use Rattle.sand_group.proofs.equivalent.equivalent_recurrent.Goals.{In_ok-settled_together}
 use Rattle.sand_group.proofs.equivalent.equivalent_recurrent.Goals as goal
 
@@ -17,7 +17,7 @@ found c =
     c.in_ok-settled_together.ensures.settled
 
 pub invariant_of-result : goal.invariant_of-result
-invariant_of-result c = recurrent_of c.args.pile.now.grid (height_of c.args.pile.now) c.in_ok-settled_together.field-0 (found c)
+invariant_of-result c = rw (found c).grid (found c).represents.recurrent
 
 pub returns-clause-equivalent : goal.returns-clause-equivalent
 returns-clause-equivalent c = found (goal.at.returns-clause-equivalent c).In_ok-settled_together

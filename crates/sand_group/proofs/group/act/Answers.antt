@@ -3,8 +3,7 @@ use Rattle.sand_model.specs.Grid.{sites}
 use Rattle.sand_model.specs.Piles.{height_of}
 use Rattle.sand_model.specs.Sand.{one_at}
 use Rattle.sand_group.specs.Group.{SettlesTo}
-use Rattle.sand_group.proofs.OperationsSettle.{recurrent_plus}
-use Rattle.sand_group.proofs.OperationsOnHeights.{grain_settles, recurrent_there}
+use Rattle.sand_group.proofs.OperationsOnHeights.{grain_settles, recurrent_there, sum_settles}
 use Rattle.sand_group.proofs.group.act.Goals.{In_ok-settled}
 use Rattle.sand_group.proofs.group.act.Goals as goal
 
@@ -20,9 +19,7 @@ settles c =
 pub invariant_of-result : goal.invariant_of-result
 invariant_of-result c =
     let done = settles (goal.at.invariant_of-result c).In_ok-settled in
-    recurrent_there c.c.inside.pile.grid _ c.in_ok-settled.field-0 done
-    (recurrent_plus c.c.inside.pile.grid (height_of c.c.inside.pile) (one_at c.args.site)
-    done.odometer (height_of c.in_ok-settled.field-0) c.c.invariant done.settled)
+    recurrent_there done (sum_settles _ c.c.invariant done).recurrent
 
 pub returns-clause-settled : goal.returns-clause-settled
 returns-clause-settled c = rw (← c.c.view_is) (settles (goal.at.returns-clause-settled c).In_ok-settled)

@@ -2,13 +2,12 @@ use Rattle.std.proofs.Common.{◌-◌, ◌*◌, get_or, slice_index}
 use Rattle.sand_model.specs.Piles.{height_of}
 use Rattle.sand_group.specs.Group.{IsInverse, SettlesTo, IsSurplus}
 use Rattle.sand_group.proofs.OperationsSettle.{inverse_is_settled}
-use Rattle.sand_group.proofs.OperationsOnHeights.{difference_settles, surplus_there, recurrent_there}
+use Rattle.sand_group.proofs.OperationsOnHeights.{difference_settles, recurrent_there}
 use Rattle.sand_group.proofs.group.inverse.Goals.{In_ok-settled}
 use Rattle.sand_group.proofs.group.inverse.Goals as goal
 
 surplus_is : (c : In_ok-settled) → IsSurplus c.c.inside.pile.grid (slice_index c.in_ok-surplus.surplus.items)
-surplus_is c = surplus_there c.shape-shape.result c.c.inside.pile.grid
-    (slice_index c.in_ok-surplus.surplus.items) c.shape-shape.ensures.value c.in_ok-surplus.ensures.surplus
+surplus_is c = rw (← c.shape-shape.ensures.value) c.in_ok-surplus.ensures.surplus
 
 settles : (c : In_ok-settled) → SettlesTo c.c.inside.pile.grid
     (λ i. 2 * get_or c.in_ok-surplus.surplus.items i 0 - height_of c.c.inside.pile i) c.in_ok-settled.field-0
@@ -19,14 +18,13 @@ settles c = difference_settles c.shape-shape.result c.c.inside.pile c.in_ok-sett
 
 inverts : (c : In_ok-settled)
     → IsInverse c.c.inside.pile.grid (height_of c.c.inside.pile) (height_of c.in_ok-settled.field-0)
-inverts c = inverse_is_settled c.c.inside.pile.grid (height_of c.c.inside.pile)
-    (slice_index c.in_ok-surplus.surplus.items) (settles c).odometer (height_of c.in_ok-settled.field-0)
+inverts c = inverse_is_settled c.c.inside.pile.grid (height_of c.c.inside.pile) _ (settles c).odometer _
     c.c.invariant (surplus_is c) (settles c).settled
 
 pub invariant_of-result : goal.invariant_of-result
 invariant_of-result c =
     let at = (goal.at.invariant_of-result c).In_ok-settled in
-    recurrent_there c.c.inside.pile.grid _ c.in_ok-settled.field-0 (settles at) (inverts at).recurrent
+    recurrent_there (settles at) (inverts at).recurrent
 
 pub returns-clause-settled : goal.returns-clause-settled
 returns-clause-settled c =

@@ -1,13 +1,18 @@
-use Rattle.std.proofs.Common.{ap, get_or}
+use Rattle.std.proofs.Common.{ap, arith, get_or}
 use Rattle.sand_model.specs.Piles.{PileView}
-use Rattle.sand_group.proofs.EmptiedIsIdentity.{emptied_is_none, low_within_limit}
+use Rattle.sand_group.proofs.EmptiedIsIdentity.{emptied_is_none}
+use Rattle.sand_group.proofs.OperationsOnHeights.{few_grains}
 use Rattle.sand_group.proofs.neutral.shown_identity.Goals as goal
 
 pub from_vec-pile-requires-clause-limit : goal.from_vec-pile-requires-clause-limit
 from_vec-pile-requires-clause-limit c =
     let low = rw c.in-Some-2.is at c.in_ok-heights.ensures.low in
     let each = rw c.in-Some-2.is at c.in_ok-heights.ensures.len in
-    low_within_limit c.args.shape c.in-Some-2.heights.items c.sites.ensures.sides each low
+    omega (
+      arith,
+      few_grains c.args.shape c.in-Some-2.heights.items c.sites.ensures.sides each
+          (λ k d l. omega (arith, low k d l)),
+    )
 
 pub returns-in-Ok-Recurrent-clause-identity : goal.returns-in-Ok-Recurrent-clause-identity
 returns-in-Ok-Recurrent-clause-identity c =
@@ -19,6 +24,3 @@ returns-in-Ok-Recurrent-clause-identity c =
       equivalent = rw c.from_vec-pile.ensures (emptied_is_none c.args.shape
           (λ i. get_or c.in-Some-2.heights.items i 0) (λ i. get_or c.in-Some.counts.items i 0) emptied);
     }
-
-pub returns-in-Ok-Forbidden-clause-identity : goal.returns-in-Ok-Forbidden-clause-identity
-returns-in-Ok-Forbidden-clause-identity c = tt

@@ -36,8 +36,7 @@ gather-requires-clause-crew g c = (
 pub settle-requires-clause-whole : goal.settle-requires-clause-whole
 settle-requires-clause-whole g c κs bounds =
     let at = (goal.at.settle-requires-clause-whole g c).After-sweep_on in
-    whole c.in_ok-pile.pile c.args.wish c.args.epoch c.sweep_on.new.self c.gather.new.first (quota g at) (worked g at)
-    c.in_ok-parts.ensures.first
+    whole (quota g at) (worked g at) c.in_ok-parts.ensures.first
 
 pub settle-requires-clause-places : goal.settle-requires-clause-places
 settle-requires-clause-places g c κs bounds =
@@ -47,32 +46,29 @@ settle-requires-clause-places g c κs bounds =
     let parts = lists c.in_ok-parts.field-0.parts.items in
     let long = vec_len c.in_ok-blank.blank.journal in
     subst (λ (n : ℕ). HavePlaces n parts long) (sym c.in_ok-blank.ensures.drops)
-    (places c.in_ok-pile.pile c.args.wish c.args.epoch c.sweep_on.new.self c.gather.new.first (quota g at) (worked g at)
-    c.in_ok-parts.ensures.first parts long c.in_ok-parts.ensures.parts c.in_ok-blank.ensures.journal once c.requires.plan)
+    (places (quota g at) (worked g at) c.in_ok-parts.ensures.first parts long c.in_ok-parts.ensures.parts
+    c.in_ok-blank.ensures.journal once c.requires.plan)
 
 pub settle-requires-clause-parts : goal.settle-requires-clause-parts
 settle-requires-clause-parts g c κs bounds =
     let at = (goal.at.settle-requires-clause-parts g c).After-sweep_on in
-    gathered_parts c.in_ok-pile.pile c.args.wish c.args.epoch c.sweep_on.new.self c.gather.new.first (quota g at)
-    (worked g at) c.in_ok-parts.ensures.first (lists c.in_ok-parts.field-0.parts.items) c.in_ok-parts.ensures.parts
+    gathered_parts (quota g at) (worked g at) c.in_ok-parts.ensures.first
+    (lists c.in_ok-parts.field-0.parts.items) c.in_ok-parts.ensures.parts
 
 pub returns-clause-closed : goal.returns-clause-closed
 returns-clause-closed g c =
-    let s = c.in_ok-pile.pile in
-    let w = c.args.wish in
     let at = (goal.at.returns-clause-closed g c).After-sweep_on in
-    let start : s.terms.start ≡ c.args.start.now = ap (λ (t : Terms). t.start) c.in_ok-pile.ensures.terms in
+    let start = ap (λ (t : Terms). t.start) c.in_ok-pile.ensures.terms in
     let gathered = c.in_ok-parts.ensures in
     let written = c.in_ok-journal.journal.items in
     let journal = subst (λ (z : ℕ × List (List Receipt)). IsJournal z.0 (flattened z.1) written)
     (λ i. (c.in_ok-blank.ensures.drops i, gathered.parts i)) c.in_ok-journal.ensures.journal in
     let tallies = map (λ ts. ts.items) c.in_ok-parts.field-0.findings.tallies.items in
     let swept = c.in_ok-parts.field-0.findings.swept.items in
-    let epoch = closed_is s w c.args.epoch c.sweep_on.new.self c.gather.new.first (quota g at) (worked g at)
-    gathered.first c.in_ok-journal.closed written tallies swept journal c.in_ok-journal.ensures.closed
-    gathered.tallies gathered.swept in
+    let epoch = closed_is (quota g at) (worked g at) gathered.first c.in_ok-journal.closed written tallies swept journal
+    c.in_ok-journal.ensures.closed gathered.tallies gathered.swept in
     record {
-      closed = subst (λ (z : PileView × RecordView). IsClosed w z.0 c.args.epoch z.1 written tallies swept)
+      closed = subst (λ (z : PileView × RecordView). IsClosed c.args.wish z.0 c.args.epoch z.1 written tallies swept)
           (λ i. (start i, sym c.in_ok-closed.ensures.first i)) epoch;
       shown = c.in_ok-closed.ensures.second ∙ sym c.in_ok-closed.ensures.first;
     }

@@ -4,7 +4,7 @@ use Rattle.sand_shared.specs.Passes.{PassView}
 use Rattle.sand_shared.specs.Record.{Tells, IsRecordOf}
 use Rattle.sand_lab.specs.declared.journal.Entry.{Entry}
 use Rattle.sand_lab.specs.Journals.{IsJournal, flattened, lists, sites_in}
-use Rattle.sand_lab.proofs.JournalSites.{journal_tells}
+use Rattle.sand_lab.proofs.EachNumberOnce.{journal_tells}
 use Rattle.sand_lab.proofs.epochs.settle.Goals as goal
 
 -- a history with the sites of the journal of all receipts

@@ -19,12 +19,12 @@ loop-who-preserved c =
       sites = c.new-sites.result;
       batch = c.in_ok-batch.batch;
       counts = c.in_ok-counts.counts;
-      pass = c.in_ok-pass.pass;
+      pass = c.in-Ok.pass;
     } in
     let one : P c.loop-who.who dropper = record {
       who = search rules;
       sites = c.new-sites.ensures ∙ ap₂ reading (ap sites c.requires.shape) c.stream_of.ensures;
-      pass = c.in_ok-pass.ensures.child
+      pass = c.in-Ok.ensures.child
           ∙ ap₂ (λ (p : PassView) (n : ℕ). record p { left = n; receipts = []; rows = no_rows; counts = [] })
           i.first c.from.ensures;
       none_read = search rules;
@@ -32,7 +32,7 @@ loop-who-preserved c =
       counts = search rules;
     } in
     let place : c.loop-who.who ≡ length c.loop-who.droppers.items = search rules in
-    let parent = c.in_ok-pass.ensures.first in
+    let parent = c.in-Ok.ensures.parent in
     record {
       droppers = subst (EachAt P) (sym c.push_reserved.ensures.items)
           (each_push P c.loop-who.droppers.items dropper i.droppers (subst (λ (n : ℕ). P n dropper) place one));

@@ -12,12 +12,12 @@ loop-who-preserved c =
     let i = c.loop-who.invariant in
     let P : ℕ → Observer → Type 0 = IsObserver s in
     let observer : Observer =
-    record { who = c.loop-who.who; tallies = c.in_ok-tallies.tallies; pass = c.in_ok-pass.pass } in
+    record { who = c.loop-who.who; tallies = c.in_ok-tallies.tallies; pass = c.in-Ok.pass } in
     let one : P c.loop-who.who observer = record {
       who = search rules;
       tallies = search rules;
       room = search rules;
-      pass = c.in_ok-pass.ensures.child
+      pass = c.in-Ok.ensures.child
           ∙ ap (λ (p : PassView). record p { left = 0; receipts = []; rows = no_rows; counts = [] }) i.first;
     } in
     let place : c.loop-who.who ≡ length c.loop-who.hired.items = search rules in

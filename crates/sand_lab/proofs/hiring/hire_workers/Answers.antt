@@ -43,7 +43,7 @@ loop-done-preserved c =
     let was : c.loop-done.first ≡ upper_part s 0 end =
     i.first ∙ ap (λ (n : ℕ). upper_part s 0 n) (ap (λ (n : ℕ). n * height / c.args.workers) (sym above) ∙ sym ends) in
     let ordered = c.band_of-begin.ensures.ordered in
-    let worker : Worker = record { who = who; swept = 0; last = 0; pass = c.in_ok-pass.pass } in
+    let worker : Worker = record { who = who; swept = 0; last = 0; pass = c.in-Ok.pass } in
     let split : PassView → PassView = λ p. record p {
       left = 0;
       receipts = [];
@@ -55,7 +55,7 @@ loop-done-preserved c =
     let one : IsWorker s c.args.workers who worker = record {
       who = refl;
       swept = refl;
-      pass = c.in_ok-pass.ensures.child ∙ ap split was ∙ band_split s begin end ordered
+      pass = c.in-Ok.ensures.child ∙ ap split was ∙ band_split s begin end ordered
           ∙ ap₂ (λ (a b : ℕ). banded s (rows_between a b)) begins ends;
     } in
     let next = c.args.workers - (c.loop-done.done + 1) in
@@ -63,11 +63,11 @@ loop-done-preserved c =
     let same : c.args.workers - c.loop-done.done ≡ suc next = omega (arith, more) in
     subst (λ (n : ℕ). EachAt (λ j. IsWorker s c.args.workers (n + j)) c.loop-done.hired.items) same i.hired in
     record {
-      hired = subst (EachAt (λ j. IsWorker s c.args.workers (next + j))) (sym c.in-Ok.ensures.items)
+      hired = subst (EachAt (λ j. IsWorker s c.args.workers (next + j))) (sym c.in-Ok-insert.ensures.items)
           (each_first (λ n. IsWorker s c.args.workers n) next c.loop-done.hired.items
           worker before (subst (λ (n : ℕ). IsWorker s c.args.workers n worker) here one));
       len = search rules;
-      first = c.in_ok-pass.ensures.first ∙ ap kept was ∙ band_left s begin end ordered
+      first = c.in-Ok.ensures.parent ∙ ap kept was ∙ band_left s begin end ordered
           ∙ ap (λ (n : ℕ). upper_part s 0 n) (begins ∙ ap (λ (n : ℕ). n * height / c.args.workers) here);
     }
 

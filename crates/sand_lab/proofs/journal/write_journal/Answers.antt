@@ -17,15 +17,14 @@ here c =
 
 pub write_part-requires-clause-ascends : goal.write_part-requires-clause-ascends
 write_part-requires-clause-ascends c =
-    ascends c.args._drops (lists c.args.parts.now) (flattened (lists c.args.parts.now)) c.requires.are_parts
-    c.loop-dropper.dropper c.as_slice.result.now (here (goal.at.write_part-requires-clause-ascends c).After-as_slice)
+    ascends c.requires.are_parts c.loop-dropper.dropper c.as_slice.result.now
+    (here (goal.at.write_part-requires-clause-ascends c).After-as_slice)
 
 pub write_part-requires-clause-below : goal.write_part-requires-clause-below
 write_part-requires-clause-below c =
     let long : length (flattened (lists c.args.parts.now)) ≡ vec_len c.loop-dropper.journal =
     sym (c.loop-dropper.invariant.len ∙ c.requires.len) in
-    part_below c.args._drops (lists c.args.parts.now) (flattened (lists c.args.parts.now))
-    c.requires.are_parts c.loop-dropper.dropper c.as_slice.result.now (vec_len c.loop-dropper.journal)
+    part_below c.requires.are_parts c.loop-dropper.dropper c.as_slice.result.now (vec_len c.loop-dropper.journal)
     (here (goal.at.write_part-requires-clause-below c).After-as_slice)
     (subst (λ n. AllBelow n (flattened (lists c.args.parts.now))) long c.requires.below)
 
@@ -34,8 +33,7 @@ loop-dropper-preserved c =
     let done = c.write_part.ensures in
     record {
       len = done.len ∙ c.loop-dropper.invariant.len;
-      noted = noted_more c.args._drops (lists c.args.parts.now) (flattened (lists c.args.parts.now))
-          c.requires.are_parts c.loop-dropper.dropper c.as_slice.result.now
+      noted = noted_more c.requires.are_parts c.loop-dropper.dropper c.as_slice.result.now
           c.loop-dropper.journal.items c.write_part.new.journal.items
           (here (goal.at.loop-dropper-preserved c).After-as_slice) c.requires.once
           done.entries done.others c.loop-dropper.invariant.noted;
@@ -55,6 +53,6 @@ returns c =
       length-map c.args.parts.now (λ part. part.items),
     ) in
     record {
-      journal = all_noted drops parts all c.requires.are_parts js long
+      journal = all_noted c.requires.are_parts js long
           (subst (λ k. NotedBelow drops (k * drops) all js) end c.loop-dropper.invariant.noted);
     }

@@ -1,4 +1,4 @@
-use Rattle.std.proofs.Common.{◌≡◌, sum, sym, ap, ◌∙◌, subst, arith}
+use Rattle.std.proofs.Common.{◌≡◌, sum, ap, ◌∙◌, subst, arith}
 use Rattle.sand_model.specs.Piles.{PileView}
 use Rattle.sand_shared.specs.Record.{RecordView}
 use Rattle.sand_lab.specs.Reports.{IsEpoch, IsReportOf}

@@ -2,6 +2,7 @@ use Rattle.std.proofs.Common.{◌≡◌, ◌+◌, ◌∙◌, ◌++◌, sym, ap, 
 use Rattle.std.proofs.lemmas.List.{take_at}
 use Rattle.sand_model.specs.Grid.{sites}
 use Rattle.sand_model.specs.Piles.{PileView}
+use Rattle.sand_fronts.specs.TiledPiles.{TiledView}
 use Rattle.sand_settle.specs.Drops.{TakesGrain}
 use Rattle.sand_settle.specs.Settling.{SettledView, IsSomeSettledRecord}
 use Rattle.sand_settle.proofs.OneRecord.{same_parts}
@@ -9,13 +10,16 @@ use Rattle.sand_settle.proofs.Drops.{Pours, few_so_far, pours, some_record_after
 use Rattle.sand_settle.proofs.one_pile.drop_grain.Goals.{After-drop_into-avalanche}
 use Rattle.sand_settle.proofs.one_pile.drop_grain.Goals as goal
 
+one_grid : (c : After-drop_into-avalanche) → c.deref_mut.result.now.grid ≡ c.args.settled.pile.grid
+one_grid c = ap (λ (t : TiledView). t.grid) c.deref_mut.ensures.value ∙ c.requires.tiled.one_grid
+
 all : (c : After-drop_into-avalanche)
     → Pours c.args.settled c.args.drop.1 c.drop_into-avalanche.new.heights
     c.drop_into-avalanche.new.odometer c.drop_into-avalanche.result
-all c = pours c.requires.paid c.requires.site c.requires.limit c.requires.tiled.one_grid
-    (c.deref_mut.ensures.value ∙ c.into_parts-shape.ensures.heights
+all c = pours c.requires.paid c.requires.site c.requires.limit (one_grid c)
+    (c.deref_mut-2.ensures.value ∙ c.into_parts-shape.ensures.heights
     ∙ ap (λ (r : SettledView). r.pile.heights) c.settled.view_is)
-    (c.deref_mut-2.ensures.value ∙ ap (λ (r : SettledView). r.odometer) c.settled.view_is)
+    (c.deref_mut-3.ensures.value ∙ ap (λ (r : SettledView). r.odometer) c.settled.view_is)
     c.drop_into-avalanche.auto.heights c.drop_into-avalanche.auto.odometer c.drop_into-avalanche.ensures.never_falls
     c.drop_into-avalanche.ensures.settled c.drop_into-avalanche.ensures.avalanche
 
@@ -24,19 +28,20 @@ heights_are : (c : After-drop_into-avalanche)
     → take c.into_parts-shape.result.1.len (c.drop_into-avalanche.new.heights
     ++ drop (length c.drop_into-avalanche.new.heights) c.into_parts-shape.result.1.items)
     ≡ c.drop_into-avalanche.new.heights
-heights_are c = take_at _ _ _ (omega (arith, c.drop_into-avalanche.auto.heights, c.deref_mut.ensures.len))
+heights_are c = take_at _ _ _ (omega (arith, c.drop_into-avalanche.auto.heights, c.deref_mut-2.ensures.len))
 
 odometer_is : (c : After-drop_into-avalanche)
     → take c.settled.inside.odometer.len (c.drop_into-avalanche.new.odometer
     ++ drop (length c.drop_into-avalanche.new.odometer) c.settled.inside.odometer.items)
     ≡ c.drop_into-avalanche.new.odometer
-odometer_is c = take_at _ _ _ (omega (arith, c.drop_into-avalanche.auto.odometer, c.deref_mut-2.ensures.len))
+odometer_is c = take_at _ _ _ (omega (arith, c.drop_into-avalanche.auto.odometer, c.deref_mut-3.ensures.len))
 
 pub drop_into-avalanche-requires-clause-bound : goal.drop_into-avalanche-requires-clause-bound
 drop_into-avalanche-requires-clause-bound c j inside =
-    few_so_far c.deref_mut-2.result.now c.requires.paid
-    (c.deref_mut-2.ensures.value ∙ ap (λ (r : SettledView). r.odometer) c.settled.view_is) j
-    (let same = ap sites c.requires.tiled.one_grid in omega arith)
+    few_so_far c.deref_mut-3.result.now c.requires.paid
+    (c.deref_mut-3.ensures.value ∙ ap (λ (r : SettledView). r.odometer) c.settled.view_is) j
+    (let same = ap sites (ap (λ (t : TiledView). t.grid) c.deref_mut.ensures.value ∙ c.requires.tiled.one_grid) in
+    omega arith)
 
 pub overflow_sub-grains : goal.overflow_sub-grains
 overflow_sub-grains c =
@@ -68,13 +73,13 @@ overflow_add-record-2 c =
 
 pub returns-clause-tiled : goal.returns-clause-tiled
 returns-clause-tiled c =
-    let heights = heights_are (goal.at.returns-clause-tiled c).After-drop_into-avalanche in
+    let at = (goal.at.returns-clause-tiled c).After-drop_into-avalanche in
     let grid = ap (λ (p : PileView). p.grid) c.from_counted.ensures ∙ c.into_parts-shape.ensures.shape
     ∙ ap (λ (r : SettledView). r.pile.grid) c.settled.view_is in
     record {
-      one_grid = c.drop_into-avalanche.ensures.grid ∙ c.requires.tiled.one_grid ∙ sym grid;
+      one_grid = c.drop_into-avalanche.ensures.grid ∙ one_grid at ∙ sym grid;
       heights = sym c.drop_into-avalanche.ensures.heights
-          ∙ sym (ap (λ (p : PileView). p.heights) c.from_counted.ensures ∙ heights);
+          ∙ sym (ap (λ (p : PileView). p.heights) c.from_counted.ensures ∙ heights_are at);
       uncounted = c.drop_into-avalanche.ensures.uncounted;
     }
 

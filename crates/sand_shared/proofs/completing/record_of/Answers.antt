@@ -9,8 +9,7 @@ use Rattle.sand_shared.proofs.completing.record_of.Goals as goal
 pub add-requires-clause-fits : goal.add-requires-clause-fits
 add-requires-clause-fits c i l =
     let same = ap (λ (l : List ℕ). length l) c.odometers.ensures.value in
-    let here = ap (λ (l : List ℕ). slice_index l i) c.odometers.ensures.value in
-    let small = c.requires.fits i (omega arith) in omega arith
+    omega (arith, ap (λ (l : List ℕ). slice_index l i) c.odometers.ensures.value, c.requires.fits i (omega arith))
 
 pub of_lists-requires : goal.of_lists-requires
 of_lists-requires c =
@@ -35,5 +34,4 @@ of_lists-requires c =
 
 pub returns-clause-never_fall : goal.returns-clause-never_fall
 returns-clause-never_fall c = λ i.
-    let odometer = ap (λ (l : List ℕ). slice_index l i) c.of_lists.ensures.odometer in
-    let never = c.add.ensures.never_fall i in omega arith
+    omega (arith, ap (λ (l : List ℕ). slice_index l i) c.of_lists.ensures.odometer, c.add.ensures.never_fall i)

@@ -1,4 +1,4 @@
-use Rattle.sand_shared.proofs.OneSweep.{one_sweep}
+use Rattle.sand_shared.proofs.SitesInTurn.{one_sweep}
 use Rattle.sand_shared.proofs.laws.one_sweep.Goals as goal
 
 pub returns : goal.returns

@@ -1,7 +1,5 @@
-use Rattle.std.proofs.Common.{◌≡◌, ◌+◌, [], ◌∷◌, ◌++◌, length, get_or, arith, sym, ap, ◌∙◌, ⊎_elim, length-append}
-use Rattle.std.proofs.lemmas.Bool.{cases_eq}
-use Rattle.std.proofs.lemmas.List.{get_or_append_left}
-use Rattle.std.proofs.Math.Seq.{get_or-append_seam}
+use Rattle.std.proofs.Common.{◌+◌, [], ◌∷◌, length, arith, ap, ◌∙◌, length-append}
+use Rattle.std.proofs.lemmas.Grind.{common_steps}
 use Rattle.std.specs.Mem.Slots.{slots_items}
 use Rattle.sand_shared.proofs.StepsAreEvents.{some_there}
 use Rattle.sand_shared.proofs.steps.read_heights.Goals as goal
@@ -17,10 +15,6 @@ loop-site-preserved c =
     record {
       len = ap (λ l. length l) items ∙ omega (arith, length-append xs (a ∷ []));
       room = omega (arith, c.push_reserved.ensures.capacity, inv.room);
-      read = λ k l. ap (λ ys. get_or ys k 0) items ∙ ⊎_elim
-          (λ (e : k ≡ i). ap (λ z. get_or (xs ++ a ∷ []) z 0) {x = k} {y = length xs} (omega arith)
-          ∙ (get_or-append_seam xs a [] 0
-          ∙ (sym (some_there ws (i + 2) a 0 c.word.ensures) ∙ ap (λ z. get_or ws (z + 2) 0) (sym e))))
-          (λ (ne : k ≡ i → ⊥). get_or_append_left xs (a ∷ []) 0 k (omega arith) ∙ inv.read k (omega arith))
-          (cases_eq k i);
+      read = λ k l. (let value = some_there ws (i + 2) a 0 c.word.ensures in
+          grind (arith, common_steps, items, inv.len, inv.read k, value));
     }

@@ -1,5 +1,6 @@
-use Rattle.std.proofs.Common.{arith, sym, ◌∙◌}
+use Rattle.std.proofs.Common.{arith, ◌∙◌}
 use Rattle.sand_text.proofs.Large.{large_start, one_byte, found_large, none_large}
+use Rattle.sand_text.proofs.Usual.{usual}
 use Rattle.sand_text.proofs.bytes.has_large.Goals as goal
 
 pub loop-byte-init : goal.loop-byte-init
@@ -17,11 +18,7 @@ loop-byte-preserved c = record {
 }
 
 pub returns-then-value-gt-GRAIN_LIMIT : goal.returns-then-value-gt-GRAIN_LIMIT
-returns-then-value-gt-GRAIN_LIMIT c = sym (found_large c.args.text.now c.loop-byte.byte-index c.loop-byte.value
-    c.run_value-value.result c.loop-byte-test.true c.run_value-value.ensures c.if-value-gt-GRAIN_LIMIT.true)
-    ∙ c.loop-byte.invariant.so_far
+returns-then-value-gt-GRAIN_LIMIT c = grind (arith, usual, found_large)
 
 pub returns : goal.returns
-returns c =
-    sym (none_large c.args.text.now c.loop-byte.byte-index c.loop-byte.value (omega arith) c.loop-byte.invariant.bound)
-    ∙ c.loop-byte.invariant.so_far
+returns c = grind (arith, usual, none_large)

@@ -1,23 +1,19 @@
-use Rattle.std.proofs.Common.{arith, ap, inl, refl, sym, ◌∙◌, ◌-◌}
+use Rattle.std.proofs.Common.{arith, inl, refl}
 use Rattle.std.proofs.lemmas.Result.{err_from_is_err_and}
 use Rattle.sand_text.specs.Reading.{front_of, drops_of}
 use Rattle.sand_text.specs.Tokens.{tokens}
 use Rattle.sand_text.proofs.Shapes.{count_at_end}
 use Rattle.sand_text.proofs.Readings.{no_site_is, drop_count, one_each}
+use Rattle.sand_text.proofs.Usual.{usual}
 use Rattle.sand_text.proofs.drops.shape_of.Goals as goal
 
 pub returns-in_err-survey-clause-err : goal.returns-in_err-survey-clause-err
 unfolding drops_of front_of
-returns-in_err-survey-clause-err c =
-    let p = err_from_is_err_and c.from_residual.result c.from_residual.ensures.1 in
-    rw (p.1, p.2) (rw (c.in_err-survey.ensures.err) refl)
+returns-in_err-survey-clause-err c = grind (arith, usual, err_from_is_err_and)
 
 pub returns-in_err-shape-clause-err : goal.returns-in_err-shape-clause-err
 unfolding drops_of front_of
-returns-in_err-shape-clause-err c =
-    let p = err_from_is_err_and c.from_residual-in_err-shape.result c.from_residual-in_err-shape.ensures.1 in
-    let err = c.in_err-shape.ensures.err (tokens c.args.text.now) _ c.in_ok-survey.ensures.ok (inl refl) in
-    rw (p.1, p.2) (rw (c.in_ok-survey.ensures.plain, err) refl)
+returns-in_err-shape-clause-err c = grind (arith, usual, err_from_is_err_and)
 
 pub overflow_sub-result : goal.overflow_sub-result
 overflow_sub-result c =
@@ -36,19 +32,11 @@ overflow_sub-result-in-None c =
 
 pub returns-in-Some-clause-err : goal.returns-in-Some-clause-err
 unfolding drops_of front_of
-returns-in-Some-clause-err c =
-    let shaped = c.in_ok-shape.ensures.ok (tokens c.args.text.now) _ c.in_ok-survey.ensures.ok (inl refl) in
-    let none = no_site_is (tokens c.args.text.now) c.in_ok-survey.survey c.in_ok-shape.shape
-    c.in_ok-survey.ensures.ok shaped.room in
-    rw (c.in_ok-survey.ensures.plain, shaped.read, none, c.in-Some.is) refl
+returns-in-Some-clause-err c = grind (arith, usual, no_site_is)
 
 pub returns-in-None-clause-drops : goal.returns-in-None-clause-drops
 unfolding drops_of front_of
-returns-in-None-clause-drops c =
-    let shaped = c.in_ok-shape.ensures.ok (tokens c.args.text.now) _ c.in_ok-survey.ensures.ok (inl refl) in
-    let none = no_site_is (tokens c.args.text.now) c.in_ok-survey.survey c.in_ok-shape.shape
-    c.in_ok-survey.ensures.ok shaped.room in
-    rw (c.in_ok-survey.ensures.plain, shaped.read, none, c.in-None.is) refl
+returns-in-None-clause-drops c = grind (arith, usual, no_site_is)
 
 pub returns-in-None-clause-enough : goal.returns-in-None-clause-enough
 returns-in-None-clause-enough c =
@@ -65,7 +53,4 @@ returns-in-None-clause-grains c =
     (shaped.grains, shaped.limit)
 
 pub returns-in-None-clause-count : goal.returns-in-None-clause-count
-returns-in-None-clause-count c =
-    let shaped = c.in_ok-shape.ensures.ok (tokens c.args.text.now) _ c.in_ok-survey.ensures.ok (inl refl) in
-    drop_count _ (tokens c.args.text.now) c.in_ok-survey.survey c.in_ok-shape.shape c.in_ok-survey.ensures.ok shaped
-    ∙ ap (λ n. c.in_ok-survey.survey.count - 2 - n) (sym c.sites.ensures.value)
+returns-in-None-clause-count c = grind (arith, usual, drop_count)

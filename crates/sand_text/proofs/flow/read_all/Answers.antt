@@ -1,27 +1,11 @@
 use Rattle.std.proofs.Common.{◌+◌, take, length, arith}
-use Rattle.std.proofs.KnownBytes.{Consumes-trans}
-use Rattle.std.proofs.lemmas.Grind.{common_steps}
 use Rattle.std.proofs.lemmas.List.{length-take}
 use Rattle.sand_text.proofs.Streams.{further, any_fault}
+use Rattle.sand_text.proofs.Usual.{usual}
 use Rattle.sand_text.proofs.flow.read_all.Goals as goal
 
 pub returns-then-count-len-clause-too_long : goal.returns-then-count-len-clause-too_long
-returns-then-count-len-clause-too_long g c = λ _.
-    let bytes = take c.in-Ok.count c.read.new.buf in
-    let bound = c.in-Ok.ensures.bound in
-    further (g.R.Read.remaining c.args.reader.now) (g.R.Read.remaining c.reading.reader)
-    (g.R.Read.remaining c.read.new.self) c.reading.text.items bytes
-    1048577 c.reading.invariant.given c.in-Ok.ensures.bytes.0
-    (omega (
-      arith,
-      bound.0,
-      bound.1,
-      length-take c.min-room.result c.reading.chunk,
-      c.read.auto.buf,
-      c.reading.text.ok.0,
-      c.len-in-reading.ensures,
-      length-take c.in-Ok.count c.read.new.buf,
-    ))
+returns-then-count-len-clause-too_long g c = grind (arith, usual, further, length-take)
 
 pub returns-in_err-extend_from_slice-clause-failed :
     goal.returns-in_err-extend_from_slice-clause-failed
@@ -36,11 +20,3 @@ returns-in_err-extend_from_slice-clause-failed g c = any_fault c.from_residual.r
           bytes n c.reading.invariant.given c.in-Ok.ensures.bytes.0
           (omega (arith, bound.0, bound.1, length-take c.in-Ok.count c.read.new.buf)),
     ))
-
-pub reading-preserved : goal.reading-preserved
-reading-preserved g c = record {
-  given = rw c.in_ok-extend_from_slice.ensures.items (Consumes-trans (g.R.Read.remaining c.args.reader.now)
-      (g.R.Read.remaining c.reading.reader) (g.R.Read.remaining c.read.new.self) c.reading.text.items
-      (take c.in-Ok.count c.read.new.buf) c.reading.invariant.given c.in-Ok.ensures.bytes.0);
-  within = grind (arith, common_steps);
-}

@@ -4,7 +4,8 @@ use Rattle.sand_text.proofs.tables.table_text.Goals as goal
 
 pub loop-number-preserved : goal.loop-number-preserved
 loop-number-preserved c = one_line c.args.rows.now c.loop-number.number-index _
-    c.loop-number.text.items _ _ (omega arith) c.in_ok-push_entry.ensures c.loop-number.invariant
+    c.loop-number.text.items _ _ (omega arith)
+    (rw c.fields_of.ensures at c.in_ok-push_row.ensures.written) c.loop-number.invariant
 
 pub returns : goal.returns
 returns c =

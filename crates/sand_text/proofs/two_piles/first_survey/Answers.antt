@@ -5,6 +5,7 @@ use Rattle.sand_text.specs.Left.{tokens_left}
 use Rattle.sand_text.proofs.Lengths.{few_numbers}
 use Rattle.sand_text.proofs.Surveying.{at_tokens}
 use Rattle.sand_text.proofs.TwoWalks.{one_further, strange_in_first}
+use Rattle.sand_text.proofs.Usual.{usual}
 use Rattle.sand_text.proofs.two_piles.first_survey.Goals as goal
 
 pub pile-init : goal.pile-init
@@ -14,12 +15,7 @@ pile-init c = record {
 }
 
 pub take-requires : goal.take-requires
-take-requires c = omega (
-  arith,
-  c.pile.invariant.underway.counted.within,
-  few_numbers c.args.tokens.now.at c.args.tokens.now.rest.now,
-  c.args.tokens.now.room,
-)
+take-requires c = grind (arith, usual, few_numbers)
 
 pub pile-preserved : goal.pile-preserved
 pile-preserved c =

@@ -5,6 +5,7 @@ use Rattle.sand_text.specs.Bytes.{has_large}
 use Rattle.sand_text.proofs.Lengths.{few_numbers}
 use Rattle.sand_text.proofs.Surveying.{at_tokens}
 use Rattle.sand_text.proofs.TwoWalks.{barred, strange_in_second, plain_second, still_open}
+use Rattle.sand_text.proofs.Usual.{usual}
 use Rattle.sand_text.proofs.two_piles.second_survey.Goals as goal
 
 pub loop-token-init : goal.loop-token-init
@@ -22,12 +23,7 @@ returns-in-Some-barred_at-clause-err c =
     here c.loop-token.invariant.barred (sym c.barred_at.ensures ∙ c.in-Some-barred_at.is)
 
 pub take-requires : goal.take-requires
-take-requires c = omega (
-  arith,
-  c.loop-token.invariant.underway.counted.within,
-  few_numbers c.args.tokens.at c.args.tokens.rest.now,
-  c.args.tokens.room,
-)
+take-requires c = grind (arith, usual, few_numbers)
 
 pub loop-token-preserved : goal.loop-token-preserved
 loop-token-preserved c =
@@ -50,5 +46,4 @@ returns-in_err-take-clause-err c =
     c.in_err-take.field-0.0 c.loop-token.invariant.barred strange)
 
 pub returns-clause-plain : goal.returns-clause-plain
-returns-clause-plain c = plain_second (has_large c.args.text.now) (tokens_left c.args.tokens) c.loop-token.survey
-    (at_tokens _ _ _ _ c.in-None.ensures.steps.0 c.loop-token.invariant.underway) c.loop-token.invariant.barred
+returns-clause-plain c = grind (arith, usual, plain_second, at_tokens, barred)

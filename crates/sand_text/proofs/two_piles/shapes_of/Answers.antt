@@ -1,4 +1,4 @@
-use Rattle.std.proofs.Common.{◌≡◌, ◌+◌, ◌≤◌, false, length, refl, sum, true}
+use Rattle.std.proofs.Common.{arith, ◌≡◌, ◌+◌, ◌≤◌, false, length, refl, sum, true}
 use Rattle.std.proofs.lemmas.Result.{err_from_is_err_and}
 use Rattle.sand_model.specs.Grid.{sites}
 use Rattle.sand_text.specs.Tokens.{tokens}
@@ -6,14 +6,13 @@ use Rattle.sand_text.specs.Reading.{two_of, behind_heights, heights_behind}
 use Rattle.sand_text.specs.Surveys.{IsShaped}
 use Rattle.sand_text.proofs.Readings.{one_each}
 use Rattle.sand_text.proofs.TwoPiles.{misshapen_second, good_two, second_facts}
+use Rattle.sand_text.proofs.Usual.{usual}
 use Rattle.sand_text.proofs.two_piles.shapes_of.Goals.{In_ok-first_shape, In_ok-second_shape}
 use Rattle.sand_text.proofs.two_piles.shapes_of.Goals as goal
 
 pub returns-in_err-first-clause-err : goal.returns-in_err-first-clause-err
 unfolding two_of
-returns-in_err-first-clause-err c =
-    let p = err_from_is_err_and c.from_residual.result c.from_residual.ensures.1 in
-    rw (p.1, p.2) (rw (c.in_err-first.ensures.err) refl)
+returns-in_err-first-clause-err c = grind (arith, usual, err_from_is_err_and)
 
 pub returns-in_err-first_shape-clause-err : goal.returns-in_err-first_shape-clause-err
 unfolding two_of

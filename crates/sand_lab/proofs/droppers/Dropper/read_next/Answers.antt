@@ -1,5 +1,5 @@
 use Rattle.std.proofs.Common.{arith, ℕ, ◌+◌, List, [], ◌∷◌, length, refl, ap, ◌∙◌, length-append}
-use Rattle.sand_lab.proofs.DropperDropsAll.{reads_one}
+use Rattle.sand_lab.proofs.OneTurnMore.{reads_one}
 use Rattle.sand_lab.proofs.droppers.Dropper.read_next.Goals as goal
 
 pub drop_batch-requires : goal.drop_batch-requires

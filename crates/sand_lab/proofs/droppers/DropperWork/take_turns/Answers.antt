@@ -3,7 +3,7 @@ use Rattle.std.specs.Int.{div_ceil}
 use Rattle.std.specs.declared.alloc.Global.{Global}
 use Rattle.sand_lab.specs.declared.droppers.Dropper.{Dropper}
 use Rattle.sand_lab.specs.Jobs.{IsDropping}
-use Rattle.sand_lab.proofs.DropperDropsAll.{some_in_a_batch, begins, took_drop_turns}
+use Rattle.sand_lab.proofs.OneTurnMore.{some_in_a_batch, begins, took_drop_turns}
 use Rattle.sand_lab.proofs.droppers.DropperWork.take_turns.Goals as goal
 use Rattle.sand_lab.proofs.droppers.DropperWork.take_turns.Goals.{then-holds, else-holds}
 

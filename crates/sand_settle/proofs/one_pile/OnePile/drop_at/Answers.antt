@@ -1,4 +1,4 @@
-use Rattle.std.proofs.Common.{◌<◌, ap, arith}
+use Rattle.std.proofs.Common.{◌<◌, refl, ap, arith}
 use Rattle.std.proofs.lemmas.Grind.{common_steps}
 use Rattle.sand_model.specs.Grid.{sites}
 use Rattle.sand_model.specs.Piles.{most_grains}
@@ -13,7 +13,7 @@ invariant_of-self-2 c =
     let room : c.args.self.now.grains < most_grains =
     grind (arith, common_steps, c.is_full.ensures.full, c.is_full.ensures.limit) in
     let dropped = c.replace_with-tiled.ensures in
-    kept_after c.self.invariant (omega (arith, c.requires)) (omega arith) dropped.1.0 dropped.0
+    (kept_after c.self.invariant.0 (omega (arith, c.requires)) (omega arith) dropped.1.0, dropped.0, λ l. refl)
 
 pub returns-clause-drops : goal.returns-clause-drops
 returns-clause-drops c =
@@ -21,7 +21,7 @@ returns-clause-drops c =
     let grains = ap (λ (v : OneView). v.grains) c.self.view_is in
     let room : c.args.self.now.grains < most_grains =
     grind (arith, common_steps, c.is_full.ensures.full, c.is_full.ensures.limit) in
-    drops_from c.self.inside.number c.self.invariant.paid c.self.view_is (omega (arith, c.requires)) (omega arith)
+    drops_from c.self.inside.number c.self.invariant.0.paid c.self.view_is (omega (arith, c.requires)) (omega arith)
     c.replace_with-tiled.ensures.1.0
 
 pub returns-clause-after : goal.returns-clause-after

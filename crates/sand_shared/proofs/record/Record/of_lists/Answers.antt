@@ -18,14 +18,12 @@ leads c = record {
 
 pub from_vec-pile-requires-clause-limit : goal.from_vec-pile-requires-clause-limit
 from_vec-pile-requires-clause-limit c =
-    let left = grains_left (leads (goal.at.from_vec-pile-requires-clause-limit c).After-shape) in
-    omega arith
+    omega (arith, grains_left (leads (goal.at.from_vec-pile-requires-clause-limit c).After-shape))
 
 pub overflow_sub-lost : goal.overflow_sub-lost
 overflow_sub-lost c =
     let left = grains_left (leads (goal.at.overflow_sub-lost c).After-shape) in
-    let rest = c.grains-2.ensures.value ∙ ap (λ (p : PileView). sum p.heights) c.from_vec-pile.ensures in
-    omega arith
+    omega (arith, c.grains-2.ensures.value ∙ ap (λ (p : PileView). sum p.heights) c.from_vec-pile.ensures)
 
 made : (c : After-grains-2)
     → LeadsTo c.args.start c.args.history.items c.args.heights.items c.args.odometer.items

@@ -4,8 +4,7 @@ use Rattle.sand_model.specs.Piles.{PileView}
 use Rattle.sand_shared.specs.declared.view.Terms.{Terms}
 use Rattle.sand_shared.specs.Passes.{SharedView, PassView}
 use Rattle.sand_shared.specs.Record.{Tells, IsCompleted}
-use Rattle.sand_shared.proofs.LastPileIsSettled.{gathered, gathered_record}
-use Rattle.sand_shared.proofs.CompletedOdometer.{stands_bare, completed_leads}
+use Rattle.sand_shared.proofs.LastPileIsSettled.{gathered, gathered_record, stands_bare, completed_leads}
 use Rattle.sand_shared.proofs.shared_pile.SharedPile.complete.Goals as goal
 
 pub record_of-requires : goal.record_of-requires
@@ -26,5 +25,4 @@ returns-clause-closed c =
     (ap (λ (l : List ℕ). length l) history ∙ c.requires.len)
     (subst (Tells c.args.pass.receipts) (sym history) c.requires.tells)
     (λ i.
-    let counts = ap (λ (q : PassView). slice_index q.counts i) c.pass.view_is in
-    let never = c.record_of.ensures.never_fall i in omega arith)
+    omega (arith, ap (λ (q : PassView). slice_index q.counts i) c.pass.view_is, c.record_of.ensures.never_fall i))

@@ -8,8 +8,7 @@ use Rattle.sand_shared.specs.declared.view.Terms.{Terms}
 use Rattle.sand_shared.specs.OpenPile.{grid_of_terms, toppled_by}
 use Rattle.sand_shared.specs.Passes.{PassView, at_rest}
 use Rattle.sand_shared.specs.Sweeps.{start_and_receipts}
-use Rattle.sand_shared.proofs.CompletedOdometer.{left_underway}
-use Rattle.sand_shared.proofs.LastPileIsSettled.{gathered}
+use Rattle.sand_shared.proofs.LastPileIsSettled.{left_underway, gathered}
 use Rattle.sand_shared.proofs.shared_pile.SharedPile.current_pile.Goals as goal
 
 pub returns-clause-underway : goal.returns-clause-underway

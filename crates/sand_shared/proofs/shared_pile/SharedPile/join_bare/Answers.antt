@@ -44,6 +44,3 @@ invariant_of-pass-2 c =
       rows = c.together-pass-inside.ensures i;
       counts = counts i;
     })
-
-pub returns-clause-joined : goal.returns-clause-joined
-returns-clause-joined c = search rules

@@ -2,8 +2,7 @@ use Rattle.std.proofs.Common.{ℕ, List, length, sym, refl, ap, ◌∙◌, subst
 use Rattle.std.specs.Prelude.{slice_index}
 use Rattle.sand_model.specs.Piles.{PileView}
 use Rattle.sand_shared.specs.Record.{Tells, IsCompleted}
-use Rattle.sand_shared.proofs.LastPileIsSettled.{gathered, gathered_record}
-use Rattle.sand_shared.proofs.CompletedOdometer.{stands_bare, completed_leads}
+use Rattle.sand_shared.proofs.LastPileIsSettled.{gathered, gathered_record, stands_bare, completed_leads}
 use Rattle.sand_shared.proofs.shared_pile.SharedPile.record_with.Goals as goal
 
 pub record_of-requires : goal.record_of-requires
@@ -23,5 +22,4 @@ returns-clause-closed c =
     (ap (λ (l : List ℕ). length l) history ∙ c.requires.len)
     (subst (Tells c.args.pass.now.receipts) (sym history) c.requires.tells)
     (λ i.
-    let counts = ap (λ (l : List ℕ). slice_index l i) c.requires.counts in
-    let never = c.record_of.ensures.never_fall i in omega arith)
+    omega (arith, ap (λ (l : List ℕ). slice_index l i) c.requires.counts, c.record_of.ensures.never_fall i))

@@ -1,4 +1,4 @@
-use Rattle.sand_shared.proofs.CompletedOdometer.{rest_of}
+use Rattle.sand_shared.proofs.LastPileIsSettled.{rest_of}
 use Rattle.sand_shared.proofs.shared_pile.SharedPile.settle_rest.Goals as goal
 
 pub returns-in-Ok-clause-rest : goal.returns-in-Ok-clause-rest

@@ -1,4 +1,4 @@
-use Rattle.std.proofs.Common.{◌≡◌, ◌-◌, length, refl, ap, ◌∙◌, arith, rules}
+use Rattle.std.proofs.Common.{◌≡◌, ◌-◌, length, refl, ap, ◌∙◌, arith}
 use Rattle.sand_shared.specs.Bare.{shown}
 use Rattle.sand_shared.specs.Events.{parent}
 use Rattle.sand_shared.proofs.PassesSplit.{rows_kept}
@@ -16,6 +16,3 @@ invariant_of-bare c =
     (c.split-seat.ensures.parent
     ∙ ap (λ n. parent x.seat.me.0 quota (length x.seat.me.0.counts - n)) kept ∙ rows_kept x inv quota)
     c.split-seat.ensures.seat.bare refl
-
-pub returns-clause-child : goal.returns-clause-child
-returns-clause-child c = search rules

@@ -57,6 +57,3 @@ invariant_of-child c =
       rows = c.cut.ensures.lower i;
       counts = counts i;
     })
-
-pub returns-clause-child : goal.returns-clause-child
-returns-clause-child c = search rules

@@ -26,8 +26,7 @@ sweep_rows-requires-clause-rows c =
     let base : c.from.result * c.width.result ≡ p.rows.first * p.shape.width =
     λ i. c.from.ensures i * c.width.ensures.value i in
     let inside = rows_inside p.shape p.rows pass.rows in
-    let all = ap sites (same_grid c.self.view_is (c.bare.view_is ∙ c.pass.view_is) c.requires.grid) in
-    omega arith
+    omega (arith, ap sites (same_grid c.self.view_is (c.bare.view_is ∙ c.pass.view_is) c.requires.grid))
 
 pub returns-clause-swept : goal.returns-clause-swept
 returns-clause-swept c =

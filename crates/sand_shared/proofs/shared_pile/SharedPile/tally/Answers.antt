@@ -3,8 +3,7 @@ use Rattle.atomic_table.specs.Table.{Me}
 use Rattle.sand_shared.specs.declared.view.View.{View}
 use Rattle.sand_shared.specs.Bare.{shown}
 use Rattle.sand_shared.specs.Events.{counted}
-use Rattle.sand_shared.proofs.PassAfterEvent.{counted_is, counted_fresh}
-use Rattle.sand_shared.proofs.SeatOfPass.{with_receipts, seated}
+use Rattle.sand_shared.proofs.SeatOfPass.{counted_is, counted_fresh, with_receipts, seated}
 use Rattle.sand_shared.proofs.shared_pile.SharedPile.tally.Goals as goal
 
 pub invariant_of-bare : goal.invariant_of-bare

@@ -6,8 +6,7 @@ use Rattle.sand_shared.specs.declared.view.View.{View}
 use Rattle.sand_shared.specs.declared.view.Grains.{Grains}
 use Rattle.sand_shared.specs.OpenPile.{grid_of_terms}
 use Rattle.sand_shared.specs.Seats.{StaysSeated}
-use Rattle.sand_shared.proofs.DropsBySite.{Waits, read_count, waits_all, waits_past, waits_laid, count_is, hand_empty, counts_zero}
-use Rattle.sand_shared.proofs.HandAfterPlacing.{laid_on}
+use Rattle.sand_shared.proofs.HandAfterPlacing.{Waits, read_count, waits_all, waits_past, waits_laid, count_is, hand_empty, counts_zero, laid_on}
 use Rattle.sand_shared.proofs.EventsInARow.{laid_is}
 use Rattle.sand_shared.proofs.StepsOnWords.{stays_on}
 use Rattle.sand_shared.proofs.steps.Words.place_all.Goals as goal

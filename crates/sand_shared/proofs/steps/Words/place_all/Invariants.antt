@@ -3,7 +3,7 @@ use Rattle.sand_model.specs.Grid.{sites}
 use Rattle.sand_shared.specs.OpenPile.{grid_of_terms}
 use Rattle.sand_shared.specs.Events.{all_places}
 use Rattle.sand_shared.specs.Seats.{StaysSeated}
-use Rattle.sand_shared.proofs.DropsBySite.{Waits}
+use Rattle.sand_shared.proofs.HandAfterPlacing.{Waits}
 use Rattle.sand_shared.proofs.steps.Words.place_all.Given as goal
 
 abbrev pub ghosts-place : goal.ghosts-place

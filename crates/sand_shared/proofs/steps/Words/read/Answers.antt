@@ -1,8 +1,6 @@
-use Rattle.std.proofs.Common.{◌≡◌, ℕ, ◌+◌, ◌*◌, [], ◌∷◌, ◌++◌, length, get_or, sym, ap, ◌∙◌, subst, ⊎_elim, arith, length-append}
+use Rattle.std.proofs.Common.{◌≡◌, ◌+◌, ◌*◌, [], ◌∷◌, length, sym, ap, ◌∙◌, subst, arith, length-append}
 use Rattle.std.specs.Prelude.{slice_index}
-use Rattle.std.proofs.lemmas.Bool.{cases_eq}
-use Rattle.std.proofs.lemmas.List.{get_or_append_left}
-use Rattle.std.proofs.Math.Seq.{get_or-append_seam}
+use Rattle.std.proofs.lemmas.Grind.{common_steps}
 use Rattle.sand_model.specs.Grid.{sites}
 use Rattle.sand_model.specs.Sand.{flow, IsToppled}
 use Rattle.sand_shared.specs.declared.view.View.{View}
@@ -12,8 +10,8 @@ use Rattle.sand_shared.specs.Events.{looked}
 use Rattle.sand_shared.specs.Running.{Stands}
 use Rattle.sand_shared.specs.Seats.{HasAll}
 use Rattle.sand_shared.specs.Sweeps.{start_and_receipts}
-use Rattle.sand_shared.proofs.PassAfterEvent.{looked_is}
-use Rattle.sand_shared.proofs.CompletedOdometer.{left_few, is_underway}
+use Rattle.sand_shared.proofs.SeatOfPass.{looked_is}
+use Rattle.sand_shared.proofs.LastPileIsSettled.{left_few, is_underway}
 use Rattle.sand_shared.proofs.PassKnowsPile.{looked_exactly}
 use Rattle.sand_shared.proofs.steps.Words.read.Goals as goal
 
@@ -44,18 +42,7 @@ sites-preserved c =
       view = is ∙ (λ q. looked v (sym spot q) (sym least q));
       len = ap (λ l. length l) items ∙ omega (arith, length-append xs (n ∷ []));
       room = omega (arith, c.push_reserved.ensures.capacity, inv.room);
-      left = λ k l. ⊎_elim
-          (λ (e : k ≡ i).
-          let now =
-          ap (λ ys. get_or ys k 0) items ∙ (ap (λ z. get_or (xs ++ n ∷ []) z 0) {x = k} {y = length xs} (omega arith)
-          ∙ get_or-append_seam xs n [] 0) in
-          subst (λ (z : ℕ × ℕ). z.0 + 4 * toppled_by v z.1 ≡ start_and_receipts t v z.1 + flow g (toppled_by v) z.1)
-          (λ q. (sym now q, sym e q)) here)
-          (λ (ne : k ≡ i → ⊥).
-          let now = ap (λ ys. get_or ys k 0) items ∙ get_or_append_left xs (n ∷ []) 0 k (omega arith) in
-          subst (λ z. z + 4 * toppled_by v k ≡ start_and_receipts t v k + flow g (toppled_by v) k)
-          (sym now) (inv.left k (omega arith)))
-          (cases_eq k i);
+      left = λ k l. grind (arith, common_steps, items, inv.len, inv.left k, here);
     }
 
 counted : (c : goal.After-learn) → c.sites-sites.result ≡ sites (grid_of_terms c.args.self.now.terms)

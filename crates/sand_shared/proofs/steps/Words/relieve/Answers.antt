@@ -8,7 +8,7 @@ use Rattle.sand_shared.specs.Events.{looked, unloaded, raised}
 use Rattle.sand_shared.specs.Seats.{HasAll}
 use Rattle.sand_shared.specs.Sweeps.{IsSparing}
 use Rattle.sand_shared.proofs.GrainsAtSite.{holds-unloaded}
-use Rattle.sand_shared.proofs.PassAfterEvent.{looked_is, unloaded_is}
+use Rattle.sand_shared.proofs.SeatOfPass.{looked_is, unloaded_is}
 use Rattle.sand_shared.proofs.PassKnowsPile.{stands_few, stands_sparing, looked_at_most, looked_exactly, stands_unloaded}
 use Rattle.sand_shared.proofs.steps.Words.relieve.Goals as goal
 
@@ -41,8 +41,7 @@ returns-then-times-ne0-clause-bound c =
     (stands_few (stands_unloaded c.unload.ensures.happened.1) (unloaded_rows c))
 
 pub returns-then-times-ne0-clause-enough : goal.returns-then-times-ne0-clause-enough
-returns-then-times-ne0-clause-enough c =
-    let most = looked_at_most c.look-times.ensures.happened c.requires.hand in omega arith
+returns-then-times-ne0-clause-enough c = omega (arith, looked_at_most c.look-times.ensures.happened c.requires.hand)
 
 pub returns-then-times-ne0-clause-no_more : goal.returns-then-times-ne0-clause-no_more
 returns-then-times-ne0-clause-no_more c all =
@@ -70,8 +69,7 @@ returns-else-times-ne0-clause-view c =
     is ∙ (λ q. record (looked v i ((sym is q).least)) { counts = same q })
 
 pub returns-else-times-ne0-clause-enough : goal.returns-else-times-ne0-clause-enough
-returns-else-times-ne0-clause-enough c =
-    let most = looked_at_most c.look-times.ensures.happened c.requires.hand in omega arith
+returns-else-times-ne0-clause-enough c = omega (arith, looked_at_most c.look-times.ensures.happened c.requires.hand)
 
 pub returns-else-times-ne0-clause-no_more : goal.returns-else-times-ne0-clause-no_more
 returns-else-times-ne0-clause-no_more c all =

@@ -11,9 +11,7 @@ use Rattle.sand_shared.proofs.steps.Words.sweep_rows.Goals as goal
 use Rattle.sand_shared.proofs.steps.Words.sweep_rows.Goals.{After-relieve-times, After-sites}
 
 pub overflow_add-base : goal.overflow_add-base
-overflow_add-base c =
-    let few = sites_limit (grid_of_terms c.args.self.now.terms) c.tell_limits.ensures.pile.grid in
-    omega arith
+overflow_add-base c = omega (arith, sites_limit (grid_of_terms c.args.self.now.terms) c.tell_limits.ensures.pile.grid)
 
 -- the sweep is at a site of the pass and of the grid
 inside : (c : After-relieve-times)

@@ -1,25 +1,14 @@
+use Rattle.std.proofs.Common.{arith}
 use Rattle.std.proofs.lemmas.Result.{IfErr-weaker, IfOk-weaker, err_from_is_err_and}
-use Rattle.sand_text.specs.Texts.{shape_text, sites_text}
 use Rattle.sand_text.proofs.Growing.{breaks_before, breaks_on, grows_on}
+use Rattle.sand_text.proofs.Usual.{usual}
 use Rattle.sand_text.proofs.blocks.Blocks.push_pile.Goals as goal
 
 pub returns-in_err-push_shape-clause-err : goal.returns-in_err-push_shape-clause-err
-returns-in_err-push_shape-clause-err g c =
-    let p = err_from_is_err_and c.from_residual.result c.from_residual.ensures.1 in
-    let broken = rw c.shape.ensures.value at c.in_err-push_shape.ensures.err in
-    rw (p.1, p.2) (breaks_before _ _ _ (shape_text c.args.pile.now.grid)
-    (sites_text c.args.pile.now.grid c.args.pile.now.heights) _ broken)
+returns-in_err-push_shape-clause-err g c = grind (arith, usual, err_from_is_err_and, breaks_before)
 
 pub returns-clause-ok : goal.returns-clause-ok
-returns-clause-ok g c =
-    let first = rw c.shape.ensures.value at c.in_ok-push_shape.ensures.ok in
-    IfOk-weaker c.push_sites.result _ _
-    (λ _ more. grows_on _ _ _ _ _ _ _ _ first (rw (c.shape-2.ensures.value, c.heights.ensures.value) at more))
-    c.push_sites.ensures.ok
+returns-clause-ok g c = grind (arith, usual, IfOk-weaker, grows_on)
 
 pub returns-clause-err : goal.returns-clause-err
-returns-clause-err g c =
-    let first = rw c.shape.ensures.value at c.in_ok-push_shape.ensures.ok in
-    IfErr-weaker c.push_sites.result _ _
-    (λ fault more. breaks_on _ _ _ _ _ _ _ fault first (rw (c.shape-2.ensures.value, c.heights.ensures.value) at more))
-    c.push_sites.ensures.err
+returns-clause-err g c = grind (arith, usual, IfErr-weaker, breaks_on)

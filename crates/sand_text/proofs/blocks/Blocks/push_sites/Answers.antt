@@ -1,10 +1,10 @@
-use Rattle.std.proofs.Common.{◌≡◌, mul_comm, ◌++◌, ◌-◌, ◌+◌, [], arith, append_assoc, append-nil, refl, sym, ◌∙◌, subst}
+use Rattle.std.proofs.Common.{◌≡◌, mul_comm, ◌++◌, ◌-◌, ◌+◌, [], arith, append_assoc, append-nil, refl, ◌∙◌}
 use Rattle.std.proofs.Math.Nat.{sub-zero}
 use Rattle.std.proofs.lemmas.Result.{err_from_is_err_and}
-use Rattle.sand_text.specs.Blocks.{GrowsBy}
 use Rattle.sand_text.specs.Texts.{row_text, rows_text, sites_text}
 use Rattle.sand_text.proofs.Growing.{stays, grows_on, breaks_within}
 use Rattle.sand_text.proofs.RowSteps.{rows_text-next, rows_text-none, fewer_rows}
+use Rattle.sand_text.proofs.Usual.{usual}
 use Rattle.sand_text.proofs.blocks.Blocks.push_sites.Goals as goal
 
 pub rows-init : goal.rows-init
@@ -46,9 +46,4 @@ rows-preserved g c =
     }
 
 pub returns-clause-ok : goal.returns-clause-ok
-returns-clause-ok g c =
-    let none = rows_text-none (c.args.shape.height - c.rows.counter) c.args.shape.width c.rows.rest.now (omega arith) in
-    let all = sym (append-nil _) ∙ rw none at c.rows.invariant.written in
-    subst (λ t.
-    GrowsBy (g.W.Write.contents c.args.writer.now) (g.W.Write.contents c.rows.writer) c.args.self.now c.rows.self t)
-    all c.rows.invariant.grew
+returns-clause-ok g c = grind (arith, usual, rows_text-none, append-nil)

@@ -1,24 +1,16 @@
-use Rattle.std.proofs.Common.{◌≡◌}
+use Rattle.std.proofs.Common.{arith, ◌≡◌}
 use Rattle.std.proofs.lemmas.Bool.{both_ways}
 use Rattle.sand_model.specs.declared.shape.Edge.TheVariants.{Cylinder}
-use Rattle.sand_text.specs.declared.tokens.Token.TheVariants.{Number, Letter, Strange}
+use Rattle.sand_text.specs.declared.tokens.Token.TheVariants.{Number, Letter}
 use Rattle.sand_text.proofs.Surveying.{at_token, note_step, spare_step, strange_letter, strange_token}
+use Rattle.sand_text.proofs.Usual.{usual}
 use Rattle.sand_text.proofs.survey.Survey.take.Goals as goal
 
 pub returns-in-Number-clause-taken : goal.returns-in-Number-clause-taken
 returns-in-Number-clause-taken c = λ ws rest h.
     let here =
     at_token ws rest c.args.self.now c.args.token (Number c.in-Number.start c.in-Number.value) c.in-Number.is h in
-    let note = c.note.ensures in
-    note_step ws rest c.args.self.now c.note.new.self c.in-Number.start c.in-Number.value here (record {
-      count = note.count;
-      width = note.width;
-      height = note.height;
-      edge = note.edge;
-      grains = note.grains;
-      no_site = note.no_site;
-      large = note.large;
-    })
+    note_step ws rest c.args.self.now c.note.new.self c.in-Number.start c.in-Number.value here c.note.ensures
 
 pub returns-else-not-spare-clause-taken : goal.returns-else-not-spare-clause-taken
 returns-else-not-spare-clause-taken c = λ ws rest h.
@@ -29,12 +21,7 @@ returns-else-not-spare-clause-taken c = λ ws rest h.
     spare_step ws rest c.args.self.now c.spare.new.self c.in-Letter.at here spared.0 spared.1 edge
 
 pub returns-then-not-spare-clause-strange : goal.returns-then-not-spare-clause-strange
-returns-then-not-spare-clause-strange c = λ ws rest h.
-    let here = at_token ws rest c.args.self.now c.args.token (Letter c.in-Letter.at) c.in-Letter.is h in
-    strange_letter ws rest c.args.self.now c.in-Letter.at here
-    (λ both. both_ways c.spare.result c.if-not-spare.true (c.spare.ensures.spared.1 both))
+returns-then-not-spare-clause-strange c = grind (arith, usual, at_token, strange_letter, both_ways)
 
 pub returns-in-Strange-clause-strange : goal.returns-in-Strange-clause-strange
-returns-in-Strange-clause-strange c = λ ws rest h.
-    let here = at_token ws rest c.args.self.now c.args.token (Strange c.in-Strange.at) c.in-Strange.is h in
-    strange_token ws rest c.args.self.now c.in-Strange.at here
+returns-in-Strange-clause-strange c = grind (arith, usual, at_token, strange_token)

@@ -1,0 +1,9 @@
+use Rattle.std.proofs.Common.{inr, rules}
+use Rattle.sand_c.specs.declared.faults.Fault.TheVariants.{Empty}
+use Rattle.sand_c.proofs.passing.sandpile_pass_join.Goals as goal
+
+pub returns-in_default-clause-answer : goal.returns-in_default-clause-answer
+returns-in_default-clause-answer c = inr (Empty, c.number.ensures, inr (search rules))
+
+pub returns-in_default-take-clause-answer : goal.returns-in_default-take-clause-answer
+returns-in_default-take-clause-answer c = inr (Empty, c.number-in_default-take.ensures, inr (search rules))

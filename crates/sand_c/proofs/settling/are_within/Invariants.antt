@@ -1,0 +1,6 @@
+use Rattle.std.proofs.Common.{◌≡◌, true}
+use Rattle.sand_c.specs.Settling.{are_within}
+use Rattle.sand_c.proofs.settling.are_within.Given as goal
+
+abbrev pub invariant-loop-pile : goal.invariant-loop-pile
+invariant-loop-pile l = are_within l.sites l.heights l.pile ≡ true

@@ -1,4 +1,0 @@
-use Rattle.sand_cli.proofs.line.word.Goals as goal
-
-pub returns-clause-rule : goal.returns-clause-rule
-returns-clause-rule c = c.number.ensures.rule

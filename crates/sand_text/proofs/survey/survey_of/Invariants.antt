@@ -1,7 +1,0 @@
-use Rattle.sand_text.specs.Left.{tokens_left}
-use Rattle.sand_text.specs.Tokens.{tokens}
-use Rattle.sand_text.specs.Surveys.{IsSurvey}
-use Rattle.sand_text.proofs.survey.survey_of.Given as goal
-
-abbrev pub invariant-loop-token : goal.invariant-loop-token
-invariant-loop-token l = IsSurvey (tokens l.text) (tokens_left l.token-iterator) l.survey
