@@ -1,16 +1,17 @@
 -- A drop that is written into lists by site.
-use Rattle.std.proofs.Common.{ℕ, List, length, get_or, ltb, eqb, refl, ◌≡◌, ◌+◌, ◌%◌, ◌^◌, ◌<◌, ◌≤◌, sym, ◌∙◌, ap, subst, arith}
-use Rattle.std.proofs.Math.ListN.{set}
+use Rattle.std.proofs.Common.{ℕ, List, length, get_or, ltb, eqb, refl, ◌≡◌, ◌+◌, ◌*◌, ◌^◌, ◌<◌, ◌≤◌, sym, ◌∙◌, ap, subst, arith, ⊎_elim}
+use Rattle.std.proofs.Math.ListN.{set, get_or-eq_default}
+use Rattle.std.proofs.lemmas.Bool.{cases_eq, cases_lt}
 use Rattle.std.proofs.lemmas.Bool.Decides.{nat_tests}
 use Rattle.std.proofs.lemmas.List.{length-set}
 use Rattle.sand_model.specs.Grid.{Grid, IsGrid, sites}
-use Rattle.sand_model.specs.Sand.{IsSettled, one_at}
+use Rattle.sand_model.specs.Sand.{IsSettled, flow, one_at}
 use Rattle.sand_model.specs.Lists.{one_if}
 use Rattle.sand_model.proofs.Bounds.{at_most_sum_below, topplings_bound, sites_limit}
-use Rattle.sand_model.proofs.Flow.{flow_same}
+use Rattle.sand_model.proofs.Heights.{counted as counted_at}
 use Rattle.sand_model.proofs.Lists.{at_most_one}
 use Rattle.sand_model.proofs.Sandpile.{settled_same}
-use Rattle.sand_model.proofs.SumsBelow.{one_at_same, one_at_other}
+use Rattle.sand_model.proofs.SumsBelow.{one_at_same}
 use Rattle.sand_tiles.specs.Places.{bit}
 use Rattle.sand_tiles.specs.Counts.{counted}
 use Rattle.sand_fronts.specs.declared.avalanche.Avalanche.{Avalanche}
@@ -21,11 +22,11 @@ use Rattle.sand_fronts.specs.Tiling.{tile_of, place_of}
 use Rattle.sand_fronts.specs.Drops.{heights_on, counted_on}
 use Rattle.sand_fronts.specs.Marking.{AreToppled}
 use Rattle.sand_fronts.specs.Boards.{tiles_of, counts_of, marks_of, grown, CountsSites, HasSettled}
-use Rattle.sand_fronts.specs.WrittenBack.{risen, AreLow, Follows, IsWrittenBack}
+use Rattle.sand_fronts.specs.WrittenBack.{risen, AreLow, IsNear, AreWritten, IsWrittenBack}
 use Rattle.sand_fronts.specs.TiledPiles.{TiledView, tiled_view}
-use Rattle.sand_fronts.proofs.OnTiles.{place_below, on_below, on_each, height_low}
+use Rattle.sand_fronts.proofs.OnTiles.{place_below, at_on, on_below, on_each, height_low}
 use Rattle.sand_fronts.proofs.NewPiles.{few_at_sites, by_site_at, by_site_long, by_site_is, by_site_none}
-use Rattle.sand_fronts.proofs.Gained.{set_each}
+use Rattle.sand_fronts.proofs.HeightsWritten.{none_near}
 use Rattle.sand_fronts.proofs.OnPiles.{avalanche_same}
 use Rattle.sand_fronts.proofs.OneGrain.{calm_settled}
 use Rattle.sand_fronts.proofs.Sums.{sum_below_most}
@@ -65,6 +66,9 @@ before {g} {site} {s} {c} {v} view counts inside none listed low each few =
       few = λ j l. few j (omega arith);
     }
 
+past_end : (u : List ℕ) (j : ℕ) → length u ≤ j → get_or u j 0 ≡ 0
+past_end u j past = get_or-eq_default u 0 past
+
 -- after the drop, which leaves the pile that contracts see as v: l lists its heights, and the pile on the grid g has
 -- settled as the odometer grew from u to w
 abbrev pub DropsInto : Grid → ℕ → TiledView → List ℕ → List ℕ → List ℕ → List ℕ → Avalanche → Type 0
@@ -77,13 +81,6 @@ DropsInto g site v h l u w a = record {
   avalanche : IsAvalanche g site (risen u w) a;
 }
 
--- a list where a site has a grain more, f of whose heights are written
-with_grain : (f : ℕ → ℕ) (site : ℕ) (h : List ℕ) → site < length h → ((j : ℕ) → f (get_or h j 0) ≡ get_or h j 0)
-    → (j : ℕ) → get_or (set h site (f (get_or h site 0 + 1))) j 0 ≡ f (get_or h j 0 + one_at site j)
-with_grain f site h inside same = set_each 0 (λ j x. x ≡ f (get_or h j 0 + one_at site j)) h site
-    (f (get_or h site 0 + 1)) inside (ap (λ n. f (get_or h site 0 + n)) (sym (one_at_same site)))
-    (λ j ne. sym (ap f (omega (arith, one_at_other site j (λ e. ne (sym e)))) ∙ same j))
-
 module _ {g : Grid} {site : ℕ} {s : Sand} {c : Counts} {v : TiledView} {h u : List ℕ}
     (at : Before g site s c v h u) where
   -- a grain that topples nothing
@@ -93,7 +90,7 @@ module _ {g : Grid} {site : ℕ} {s : Sand} {c : Counts} {v : TiledView} {h u : 
       → DropsInto v.grid site (tiled_view g t c) h (set h site (get_or h site 0 + 1)) u u a
   calm_into t {a} grain calm =
       let l = set h site (get_or h site 0 + 1) in
-      let now = with_grain (λ n. n) site h at.within (λ j. refl) in
+      let now = counted_at site 1 h l at.within refl in
       let is : (j : ℕ) → j < sites g → get_or l j 0 ≡ heights_on g (tiles_of t) j =
       λ j less. omega (arith, now j, grain j less, at.heights j less) in
       subst (λ k. DropsInto k site (tiled_view g t c) h l u u a) at.grid (record {
@@ -101,7 +98,8 @@ module _ {g : Grid} {site : ℕ} {s : Sand} {c : Counts} {v : TiledView} {h u : 
         uncounted = by_site_none g (counted_on g (counts_of c)) (λ j less. at.none _ _ (place_below g j));
         heights = by_site_is g (heights_on g (tiles_of t)) l (length-set h site _ ∙ at.heights_each) is;
         never_falls = λ j. omega arith;
-        settled = calm_settled g (λ j. get_or h j 0 + one_at site j) (risen u u) (λ j. get_or l j 0) (λ j less. now j)
+        settled = calm_settled g (λ j. get_or h j 0 + one_at site j) (risen u u) (λ j. get_or l j 0)
+            (λ j less. omega (arith, now j))
             (λ j less. omega arith)
             (λ j less. omega (arith, is j less, height_low (tiles_of t (tile_of g j)) (place_of g j)));
         avalanche = calm (risen u u) (λ j less. omega arith);
@@ -131,28 +129,51 @@ module _ {g : Grid} {site : ℕ} {s : Sand} {c : Counts} {v : TiledView} {h u : 
         → bit (marks_of d m) p ≡ r (λ j. one_if (ltb 0 (y j))) → counted (counts_of d m) p ≡ 0) low
         (λ j l now is. grind (arith, nat_tests)) (λ now is. omega arith) (has.counted m p low) (marked m p low)
 
-    -- what has toppled is written into the odometer, and what has moved into the heights
+    -- what has toppled is written into the odometer, and the heights of these
+    -- sites and of those next to them are written
     pub topples_into : {e : Counts} {l w : List ℕ} {i : Grid} {a : Avalanche}
-        → Follows g (set h site ((get_or h site 0 + 1) % 4)) l u w → IsWrittenBack g d e u w → i ≡ g
+        → AreWritten g (tiles_of t) (λ j. (m : ℕ) × IsNear g m (marks_of d m) j) h l → IsWrittenBack g d e u w
+        → AreToppled g (grown g c d) (marks_of d) → 3 ≤ get_or h site 0 → i ≡ g
         → IsAvalanche g site (grown g c d) a → DropsInto v.grid site (tiled_view i t e) h l u w a
-    topples_into {e} {l} {w} {i} {a} follows written shape avalanche =
-        let rises : (j : ℕ) → j < sites g → grown g c d j ≡ risen u w j =
+    topples_into {e} {l} {w} {i} {a} heights written marked full shape avalanche =
+        let y = grown g c d in
+        let rises : (j : ℕ) → j < sites g → y j ≡ risen u w j =
         λ j less. omega (arith, written.added j less, at.none (tile_of g j) (place_of g j) (place_below g j)) in
-        let is : (j : ℕ) → j < sites g → get_or l j 0 ≡ heights_on g (tiles_of t) j = λ j less.
-        let low' = height_low (tiles_of t (tile_of g j)) (place_of g j) in
-        let grain = with_grain (λ n. n % 4) site h at.within (λ i. omega (arith, at.low i)) j in
-        let same = flow_same g (grown g c d) (risen u w) rises j less in
-        omega (arith, at.heights j less, follows.gains j less, has.settled.toppled.balance j less) in
+        let is_marked : (n : ℕ) → n < sites g → 0 < y n → bit (marks_of d (tile_of g n)) (place_of g n) ≡ 1 =
+        λ n less some. marked (tile_of g n) (place_of g n) (place_below g n)
+        ∙ at_on g (λ j. one_if (ltb 0 (y j))) n less ∙ grind (arith, nat_tests) in
+        let is : (j : ℕ) → j < sites g → get_or l j 0 ≡ heights_on g (tiles_of t) j = λ j less. ⊎_elim
+        (λ (now : get_or l j 0 ≡ heights_on g (tiles_of t) j). now)
+        (λ (ne : get_or l j 0 ≡ heights_on g (tiles_of t) j → ⊥).
+        let none : (n : ℕ) → n < sites g → 0 < one_at n j + flow g (one_at n) j → y n ≡ 0 = λ n inside some. ⊎_elim
+        (λ (no : y n ≡ 0). no)
+        (λ (yes : y n ≡ 0 → ⊥). absurd (ne (heights.there j less
+        (tile_of g n, (n, inside, (refl, is_marked n inside (omega arith)), some)))))
+        (cases_eq (y n) 0) in
+        let here = none j less (omega (arith, one_at_same j)) in
+        let around = none_near g y j less (λ n inside some. none n inside (omega arith)) in
+        let same : get_or l j 0 ≡ get_or h j 0 = ⊎_elim (λ e. e) (λ e. absurd (ne e)) (heights.each j less) in
+        let at_most_full : 3 * one_at site j ≤ get_or h j 0 = grind (arith, nat_tests) in
+        omega (
+          arith,
+          height_low (tiles_of t (tile_of g j)) (place_of g j),
+          has.settled.toppled.balance j less,
+          at.heights j less,
+          at_most_one (eqb site j),
+        ))
+        (cases_eq (get_or l j 0) (heights_on g (tiles_of t) j)) in
         subst (λ k. DropsInto k site (tiled_view i t e) h l u w a) at.grid
         (subst (λ k. DropsInto g site (tiled_view k t e) h l u w a) (sym shape) (record {
           grid = refl;
           uncounted = by_site_none g (counted_on g (counts_of e)) (λ j less. written.none _ _ (place_below g j));
-          heights = by_site_is g (heights_on g (tiles_of t)) l
-              (follows.heights_each ∙ length-set h site _ ∙ at.heights_each) is;
-          never_falls = follows.never_falls;
+          heights = by_site_is g (heights_on g (tiles_of t)) l (heights.len ∙ at.heights_each) is;
+          never_falls = λ j. ⊎_elim
+              (λ (less : j < sites g). omega (arith, written.added j less))
+              (λ (past : sites g ≤ j). omega (arith, past_end u j (omega (arith, at.odometer_each))))
+              (cases_lt j (sites g));
           settled = settled_same g (λ j. heights_on g (tiles_of s) j + one_at site j)
-              (λ j. get_or h j 0 + one_at site j) (grown g c d) (risen u w) (heights_on g (tiles_of t))
+              (λ j. get_or h j 0 + one_at site j) y (risen u w) (heights_on g (tiles_of t))
               (λ j. get_or l j 0) (λ j less. omega (arith, at.heights j less)) rises
               (λ j less. sym (is j less)) has.settled;
-          avalanche = avalanche_same g site (grown g c d) (risen u w) a rises avalanche;
+          avalanche = avalanche_same g site y (risen u w) a rises avalanche;
         }))

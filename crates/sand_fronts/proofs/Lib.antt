@@ -19,4 +19,5 @@ pub mod Marked
 pub mod Reached
 pub mod OnPiles
 pub mod WrittenBack
+pub mod HeightsWritten
 pub mod DropsInto

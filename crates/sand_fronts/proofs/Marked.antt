@@ -10,7 +10,7 @@ use Rattle.sand_model.specs.Sand.{sum_below, occurrences}
 use Rattle.sand_model.specs.Lists.{one_if, Lists}
 use Rattle.sand_model.proofs.SumsBelow.{sum_below_same, one_at_other}
 use Rattle.sand_model.proofs.Occurrences.{occurrences-cons}
-use Rattle.sand_model.proofs.Lists.{listed, read_below}
+use Rattle.sand_model.proofs.Lists.{listed, read_below, read_passes}
 use Rattle.sand_tiles.specs.Places.{bit}
 use Rattle.sand_tiles.specs.Counts.{Count, counted}
 use Rattle.sand_tiles.proofs.Bits.{bit_none}
@@ -48,6 +48,13 @@ pub tile_below : (ws list : List ℕ) (position k : ℕ) → Lists (length ws) (
     → k ≡ get_or list position 0 → k < length ws
 tile_below ws list position k lists less is = read_below (length ws) (has_mark ws) list position k lists less
     (is ∙ sym (get_or_default_zero list position k less))
+
+pub tile_marked : (ws list : List ℕ) (position k : ℕ) → Lists (length ws) (has_mark ws) list → position < length list
+    → k ≡ get_or list position 0 → 0 < get_or ws k 0
+tile_marked ws list position k lists less is =
+    let some = read_passes (length ws) (has_mark ws) list position k lists less
+    (is ∙ sym (get_or_default_zero list position k less)) in
+    grind (arith, nat_tests)
 
 turn_of : (xs : List ℕ) (i : ℕ) → 1 ≤ occurrences xs i → (t : ℕ) × (t < length xs) × (get_or xs t 0 ≡ i)
 turn_of [] i some = absurd (omega arith)

@@ -25,7 +25,7 @@ inner g j inside =
     record { first = omega arith; last = omega arith; rows = omega arith }
 
 -- the grains of the set `new` that a site gains: inside the tile k, and over its rim
-gained : (g : Grid) (k new : ℕ) (b : Beside) (j : ℕ) → j < sites g → IsInner g k
+pub gained : (g : Grid) (k new : ℕ) (b : Beside) (j : ℕ) → j < sites g → IsInner g k
     → IsBeside g k b → new < 2 ^ 64 → IsBlank g (only k (bit new))
     → flow g (at_site g (only k (bit new))) j
     ≡ around (only k (bit new) (tile_of g j)) (place_of g j) + over_rim b new (tile_of g j) (place_of g j)

@@ -1,42 +1,25 @@
--- Heights and an odometer by site that follow what topples on tiles.
-use Rattle.std.proofs.Common.{ℕ, List, get_or, refl, ◌≡◌, ◌≢◌, ◌+◌, ◌*◌, ◌<◌, ◌≤◌, sym, ◌∙◌, arith}
+-- An odometer and heights by site that follow what topples on tiles.
+use Rattle.std.proofs.Common.{w64, ℕ, List, get_or, inr, true, ◌≡◌, ◌≢◌, ◌⊎◌, ◌+◌, ◌*◌, ◌^◌, ◌<◌, ◌≤◌, length, sym, ◌∙◌, ap, arith}
+use Rattle.std.specs.Prelude.{bit_xor}
+use Rattle.std.specs.Int.{trailing_zeros}
+use Rattle.std.proofs.Math.ListN.{set as set_at}
 use Rattle.std.proofs.lemmas.Bool.Decides.{nat_tests}
-use Rattle.sand_model.specs.Grid.{Grid, sites, column}
+use Rattle.std.proofs.lemmas.List.{length-set}
+use Rattle.sand_model.specs.Grid.{Grid, sites}
 use Rattle.sand_model.specs.Sand.{one_at}
-use Rattle.sand_model.proofs.Flow.{flow_same, flow-add, flow_none}
-use Rattle.sand_tiles.specs.Places.{bit}
+use Rattle.sand_model.proofs.SumsBelow.{one_at_other}
+use Rattle.sand_tiles.specs.declared.tile.Tile.{Tile}
+use Rattle.sand_tiles.specs.Places.{bit, height}
 use Rattle.sand_tiles.specs.Counts.{Count, counted}
 use Rattle.sand_tiles.proofs.Bits.{bit_le}
 use Rattle.sand_fronts.specs.declared.counts.Counts.{Counts}
 use Rattle.sand_fronts.specs.Boards.{counts_of, AreCleared}
-use Rattle.sand_fronts.specs.Tiling.{tile_of, place_of, column_at}
-use Rattle.sand_fronts.specs.WrittenBack.{risen, AreLow, Follows}
-use Rattle.sand_fronts.proofs.Gained.{changed_each}
-use Rattle.sand_fronts.proofs.Reached.{IsTaken}
-use Rattle.sand_fronts.proofs.OnTiles.{place_below, same_site}
-
--- ---- heights that follow an odometer
-
-pub follows_none : (g : Grid) (h u : List ℕ) → AreLow h → Follows g h h u u
-follows_none g h u low = record {
-  heights_each = refl;
-  odometer_each = refl;
-  never_falls = λ j. omega arith;
-  gains = λ j l. let none = flow_none g (risen u u) j (λ i m. omega arith) l in let few = low j in omega arith;
-  low = low;
-}
-
-pub follows_more : {g : Grid} {h k l u v w : List ℕ} → Follows g h k u v → Follows g k l v w → Follows g h l u w
-follows_more {g} {h} {k} {l} {u} {v} {w} one two = record {
-  heights_each = two.heights_each ∙ one.heights_each;
-  odometer_each = two.odometer_each ∙ one.odometer_each;
-  never_falls = λ j. omega (arith, one.never_falls j, two.never_falls j);
-  gains = λ j inside.
-      let both = flow_same g (risen u w) (λ i. risen u v i + risen v w i)
-      (λ i m. omega (arith, one.never_falls i, two.never_falls i)) j inside in
-      omega (arith, one.gains j inside, two.gains j inside, flow-add g (risen u v) (risen v w) j);
-  low = two.low;
-}
+use Rattle.sand_fronts.specs.Drops.{heights_on}
+use Rattle.sand_fronts.specs.Tiling.{tile_of, place_of, is_site, site_on}
+use Rattle.sand_fronts.specs.WrittenBack.{IsIn, AreWritten}
+use Rattle.sand_fronts.proofs.Gained.{changed_each, set_each}
+use Rattle.sand_fronts.proofs.Reached.{IsTaken, taken}
+use Rattle.sand_fronts.proofs.OnTiles.{place_below, same_site, there_again}
 
 -- ---- place by place
 
@@ -59,7 +42,17 @@ pub record IsNext (g : Grid) (k place rest next site : ℕ) : Type 0 where
   pub inside : site < sites g
   pub tile : tile_of g site ≡ k
   pub at_place : place_of g site ≡ place
-  pub at_column : column g site ≡ column_at g k place
+
+-- the first place of a set of sites
+pub next_site : (g : Grid) (k rest one site : ℕ) → rest ≢ 0 → rest < 2 ^ 64
+    → ((p : ℕ) → p < 64 → bit one p ≡ one_at (trailing_zeros w64 rest) p)
+    → ((p : ℕ) → p < 64 → bit rest p ≡ 1 → is_site g k p ≡ true) → site ≡ site_on g k (trailing_zeros w64 rest)
+    → IsNext g k (trailing_zeros w64 rest) rest (bit_xor rest one) site
+next_site g k rest one site some fits is at_sites same =
+    let gone = taken rest one some fits is in
+    let p = trailing_zeros w64 rest in
+    let there = there_again g k p gone.inside (at_sites p gone.inside gone.was) in
+    record { taken = gone; inside = rw same there.0; tile = rw same there.1; at_place = rw same there.2 }
 
 pub tile_more : {g : Grid} {k place set rest next site : ℕ} {c : Count} {u v : List ℕ} (w : List ℕ)
     → TileWritten g k c set rest u v → IsNext g k place rest next site
@@ -81,3 +74,26 @@ tile_more {g} {k} {place} {set} {rest} {next} {site} {c} {u} {v} w before there 
       let at = there.tile in
       grind (arith, nat_tests);
 }
+
+-- the height of the next place is written
+pub height_more : {g : Grid} {τ : ℕ → Tile} {k place rest next site height' : ℕ} {h l : List ℕ} (set : ℕ)
+    → AreWritten g τ (λ j. IsIn g k set j × (bit rest (place_of g j) ≡ 0)) h l → IsNext g k place rest next site
+    → site < length l → height' ≡ height (τ k) place
+    → AreWritten g τ (λ j. IsIn g k set j × (bit next (place_of g j) ≡ 0)) h (set_at l site height')
+height_more {g} {τ} {k} {place} {rest} {next} {site} {height'} {h} {l} set before there within value =
+    let here : height' ≡ heights_on g τ site = rw (there.tile, there.at_place) value in
+    record {
+      len = length-set l site height' ∙ before.len;
+      each = set_each 0 (λ j x. j < sites g → (x ≡ get_or h j 0) ⊎ (x ≡ heights_on g τ j)) l site height' within
+          (λ less. inr here) (λ j ne less. before.each j less);
+      there = set_each 0
+          (λ j x. j < sites g → IsIn g k set j × (bit next (place_of g j) ≡ 0) → x ≡ heights_on g τ j) l site height'
+          within (λ less is. here) (λ j ne less is. before.there j less (
+            is.0,
+            let e = there.taken.each (place_of g j) (place_below g j) in
+                let same = same_site g site j there.inside less (is.0.0 ∙ sym there.tile) in
+                let other = one_at_other site j (λ e. ne (sym e)) in
+                let at = there.at_place in
+                omega (arith, is.1, ap (λ q. one_at q (place_of g j)) at),
+          ));
+    }

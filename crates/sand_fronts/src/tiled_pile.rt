@@ -196,8 +196,7 @@ impl TiledPile {
             return calm(site);
         }
         let total = topple_grain(&mut self.board, &mut self.sand, &mut self.counts, site);
-        heights[site] = (heights[site] + 1) % 4;
-        write_back(shape, &mut self.counts, heights, odometer);
+        write_back(&self.board, &self.sand, &mut self.counts, heights, odometer);
         avalanche_of(shape, site, total, &mut self.counts.marks)
     }
 

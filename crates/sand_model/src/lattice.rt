@@ -85,8 +85,7 @@ impl Lattice {
         ensures places { result ≡ places self.now site }
         ensures sides { IsGrid self.now }
     {
-        self.shape
-            .neighbours_in(usize::from(self.columns[site]), site)
+        self.shape.places(site, usize::from(self.columns[site]))
     }
 
     /// Whether a site is in neither the first nor the last row or column, on a cylinder too. `inner_neighbours` finds

@@ -199,17 +199,10 @@ impl Shape {
         }
     }
 
-    /// The sites north, west, east and south of a site, in that order, with None for one outside the grid.
-    pub fn neighbours(self, site: usize) -> [Option<usize>; 4]
-        requires { site < sites self }
-        ensures { result ≡ places self site }
-    {
-        self.neighbours_in(site % self.width, site)
-    }
-
-    /// The same for a site in column `x`. Unlike `neighbours`, it needs no division.
+    // The places around a site in column `x`. Neighbours are derived only here: `neighbours` divides to find the
+    // column, and a `Lattice` looks it up.
     #[inline(always)]
-    pub fn neighbours_in(self, x: usize, site: usize) -> [Option<usize>; 4]
+    pub(crate) fn places(self, site: usize, x: usize) -> [Option<usize>; 4]
         requires site { site < sites self }
         requires column { x ≡ column self site }
         ensures { result ≡ places self site }
@@ -220,6 +213,14 @@ impl Shape {
             self.east(site, x),
             self.south(site),
         ]
+    }
+
+    /// The sites north, west, east and south of a site, in that order, with None for one outside the grid.
+    pub fn neighbours(self, site: usize) -> [Option<usize>; 4]
+        requires { site < sites self }
+        ensures { result ≡ places self site }
+    {
+        self.places(site, site % self.width)
     }
 
     /// How many of a site's four places are outside the grid: the grains lost when it topples once.

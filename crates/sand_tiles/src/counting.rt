@@ -107,6 +107,22 @@ fn add_to(planes: &mut Planes, set: u64)
     planes.tops ^= top;
 }
 
+// Whether no place has toppled 16 times since the last spill. It is the same for all places of a tile, so a loop over
+// them asks once.
+#[inline(always)]
+fn has_none_from_16(planes: &Planes) -> bool
+    ensures { result ≡ true → (p : ℕ) → bit planes.now.sixteens p + bit planes.now.thirty_twos p
+        + bit planes.now.sixty_fours p + bit planes.now.next p + bit planes.now.upper p + bit planes.now.tops p ≡ 0 }
+{
+    planes.sixteens
+        | planes.thirty_twos
+        | planes.sixty_fours
+        | planes.next
+        | planes.upper
+        | planes.tops
+        == 0
+}
+
 /// How often a place has toppled since the last spill.
 #[inline(always)]
 pub fn times_at(recent: &Recent, place: usize) -> u64
@@ -114,10 +130,14 @@ pub fn times_at(recent: &Recent, place: usize) -> u64
     ensures { result ≡ times recent.now.planes place }
 {
     let planes = &recent.planes;
-    (planes.ones >> place & 1)
+    let below_16 = (planes.ones >> place & 1)
         + 2 * (planes.twos >> place & 1)
         + 4 * (planes.fours >> place & 1)
-        + 8 * (planes.eights >> place & 1)
+        + 8 * (planes.eights >> place & 1);
+    if has_none_from_16(planes) {
+        return below_16;
+    }
+    below_16
         + 16 * (planes.sixteens >> place & 1)
         + 32 * (planes.thirty_twos >> place & 1)
         + 64 * (planes.sixty_fours >> place & 1)

@@ -1,5 +1,4 @@
 use Rattle.std.proofs.Common.{length, ◌∙◌, ap, arith, rules}
-use Rattle.std.proofs.lemmas.List.{length-set}
 use Rattle.sand_fronts.specs.Marking.{MarksView}
 use Rattle.sand_fronts.specs.Boards.{counts_of}
 use Rattle.sand_fronts.proofs.NewPiles.{counts_no_site}
@@ -57,21 +56,19 @@ returns-then-heights-site-lt3 c = calm_into (at (goal.at.returns-then-heights-si
 
 -- ---- the site topples
 
-pub bounds-heights-site-2 : goal.bounds-heights-site-2
-bounds-heights-site-2 c = (at (goal.at.bounds-heights-site-2 c).After-self).within
-
 pub write_back-requires : goal.write_back-requires
 write_back-requires c =
     let before = at (goal.at.write_back-requires c).After-self in
     let is = c.topple_grain-total.ensures in
     record {
-      counts = is.settled.counts;
-      fits = c.self.invariant.board.beside.fits;
-      len = (length-set c.args.heights.now _ _ ∙ before.heights_each, before.odometer_each);
-      bound = (few_toppled before is.settled c.self.invariant.board.beside.sides, before.few);
-      at_sites = sites_toppled _ _ _ is.marked;
+      board = is.board;
+      all_open = rw is.shape is.all_open;
+      sand = rw is.shape is.settled.sand;
+      counts = rw is.shape is.settled.counts;
+      len = search rules;
+      bound = (few_toppled before is.settled c.self.invariant.board.beside.sides, rw is.shape before.few);
+      at_sites = rw is.shape (sites_toppled _ _ _ is.marked);
       no_other = only_marked before is.settled is.marked;
-      low = search rules;
     }
 
 pub avalanche_of-requires : goal.avalanche_of-requires
@@ -101,6 +98,8 @@ invariant_of-self-2 c =
 
 pub returns : goal.returns
 returns c =
-    let is = c.topple_grain-total.ensures in let written = c.write_back.ensures.written in
-    topples_into (at (goal.at.returns c).After-self) is.settled c.write_back.ensures.follows written is.shape
-    (c.avalanche_of.ensures.avalanche _ (rw written.marks is.marked) is.size is.lost)
+    let is = c.topple_grain-total.ensures in
+    topples_into (at (goal.at.returns c).After-self) is.settled (rw is.shape at c.write_back.ensures.heights)
+    (rw is.shape at c.write_back.ensures.written)
+    is.marked (omega (arith, c.if-heights-site-lt3.false)) is.shape
+    (c.avalanche_of.ensures.avalanche _ (rw c.write_back.ensures.written.marks is.marked) is.size is.lost)
