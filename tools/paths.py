@@ -6,8 +6,9 @@ from pathlib import Path
 
 TOP = Path(__file__).resolve().parent.parent
 PROGRAM = TOP / "crates" / "sandpile" / "out" / "sandpile"
-STATIC = PROGRAM.with_name("sandpile-static")  # the same, and it needs no glibc
+STATIC = PROGRAM.with_name("sandpile-static")  # with the C library of the machine that linked it
 # `rt ci` leaves two programs. The second one is made by Rattle's own compiler.
 PROGRAMS = (PROGRAM, PROGRAM.with_name("sandpile.by-rattle"))
 LIBRARY = TOP / "crates" / "sand_c" / "out" / "libsandpile.so.1"
+ARCHIVE = LIBRARY.with_name("libsandpile.a")
 WITH_NUMPY = TOP / "python" / "with-numpy"

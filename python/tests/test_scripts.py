@@ -66,7 +66,7 @@ class OfCheck(OfScripts):
     def test_the_checkout_stays_as_it_is(self):
         before = files_in(self.top)
         status, said, _ = self.run_in("./check")
-        self.assertEqual((status, said.splitlines()[-1]), (0, "23 passed, 0 failed"))
+        self.assertEqual((status, said.splitlines()[-1]), (0, "21 passed, 0 failed"))
         self.assertEqual(files_in(self.top), before)
         self.assertEqual(list(self.room.iterdir()), [])
 
@@ -87,15 +87,18 @@ class OfCheck(OfScripts):
             self.assertEqual((sorted(lines[:-1]), lines[-1]), (sorted(seen), "changed"))
 
     def test_anew(self):
-        for words in ([], ["--anew"]):
+        rt = self.bin / "rt"
+        proves, has_word = rt.read_text(), '[ $1 = help ] && echo "ci --anew" && exit'
+        for words, lines, call in (([], [], "rt ci"), (["--anew"], [], "rt ci"), (["--anew"], [has_word], "rt ci --anew")):
+            stand_in(rt, *lines, '[ $1 = help ] && echo ci && exit', *proves.splitlines()[1:])
             status, said, _ = self.run_in("./check", *words)
-            self.assertEqual((status, said.splitlines()[-1]), (0, "23 passed, 0 failed"))
-            self.assertEqual(self.noted(), [" ".join(["rt ci", *words])])
+            self.assertEqual((status, said.splitlines()[-1]), (0, "21 passed, 0 failed"))
+            self.assertEqual(self.noted(), [call])
 
     def test_a_failed_part_is_the_last(self):
         stand_in(self.top / "tools/cases", "echo 'cases: 7 passed, 1 failed'; exit 1")
         status, said, _ = self.run_in("./check")
-        self.assertEqual((status, said.splitlines()[-1]), (1, "20 passed, 1 failed"))
+        self.assertEqual((status, said.splitlines()[-1]), (1, "18 passed, 1 failed"))
 
     def test_the_refusals_are_read_from_what_the_proof_wrote(self):
         stand_in(self.top / "tools/wrong-bodies", 'cat >> "$LOG"', "echo 'part: 2 passed, 0 failed'")
@@ -120,8 +123,10 @@ class OfCheck(OfScripts):
                 self.assertEqual(self.noted(), ["ended"])
 
 
-class OfBuild(OfScripts):
-    scripts = ("build", "sandpile")
+class WithToolchain(OfScripts):
+    """Has three crates, and a toolchain that proves whatever it is given."""
+
+    scripts = ("build", "sandpile", "tools/products.py", "tools/release.py")
 
     def setUp(self):
         super().setUp()
@@ -130,45 +135,69 @@ class OfBuild(OfScripts):
             (self.top / name).parent.mkdir(parents=True, exist_ok=True)
             (self.top / name).write_text(name)
         (self.top / "crates.txt").write_text("low:\nsandpile: low\nsand_c staticlib: low\n")
+        self.kit = self.bin.with_name("kit")
+        self.is_kit("kit")
+        # The toolchain makes what `-o` names, of the crate's source; a library is a folder.
         stand_in(
-            self.bin / "rt", "[ $1 = version ] && echo kit && exit",
-            'echo "$1 ${PWD##*/}" >> "$LOG"', 'ls out >> "$LOG" 2>/dev/null',
-            "mkdir -p out/incremental", "echo work > out/incremental/work",
-            "if [ $1 = lib ]; then [ -e out/rlib ] || { mkdir out/rlib; echo ${PWD##*/} > out/rlib/stamp; }; exit; fi",
-            "printf '#!/bin/sh\\necho %s\\n' \"$(cat src/main.rt)\" > out/sandpile", "chmod +x out/sandpile", '[ ! -e "$LOG.fail" ]',
+            self.kit / "bin/rattle",
+            'for word; do [ "$before" = -o ] && made=$word; [[ $word = *=*/statements/*.rlib ]] && used=$word; before=$word; done',
+            'echo "$3 over $used" >> "$LOG"', '[ ! -e "$LOG.fail" ] || exit 1',
+            '[[ $made = *.rlib ]] && mkdir -p "$made" && made=$made/format', 'cat src/*.rt > "$made"',
         )
+        stand_in(
+            self.kit / "bin/rattle-link", "printf '#!/bin/sh\\necho %s\\n' \"$(cat sandpile.o)\" > sandpile", "chmod +x sandpile"
+        )
+        stand_in(self.kit / "toolchain/bin/llvm-ar", 'echo "with ${4##*/}" >> "$2"')
+        stand_in(self.kit / "toolchain/bin/clang")
+        stand_in(self.kit / "toolchain/bin/ld.lld", "cp libsandpile.a libsandpile.so.1; chmod +x libsandpile.so.1")
+        stand_in(self.bin / "cc", 'echo "cc $*" >> "$LOG"', "touch sandpile-static")
+
+    def is_kit(self, line):
+        stand_in(self.bin / "rt", f"[ $1 = version ] && echo {line} || echo ${{0%/*}}/../kit/START-HERE.md")
 
     def built(self, crate):
         return sorted(path.name for path in (self.top / "crates" / crate / "out").iterdir())
 
+    def proved(self):
+        """The crates that were proved since the last call."""
+        return [line.partition(" ")[0] for line in self.noted() if " over " in line]
+
+    def change(self, crate, text):
+        source, = (self.top / "crates" / crate / "src").iterdir()
+        source.write_text(text)
+
+
+class OfBuild(WithToolchain):
     def test_a_change_is_built(self):
         self.assertEqual(self.run_in("./sandpile")[:2], (0, "crates/sandpile/src/main.rt\n"))
-        self.assertEqual(self.noted(), ["lib low", "run sandpile"])
+        low = self.top / "crates/low/out/statements/low.rlib"
+        self.assertEqual(self.noted()[:2], ["low over ", f"sandpile over low={low}"])
         self.assertEqual(self.run_in("./sandpile"), (0, "crates/sandpile/src/main.rt\n", ""))
         self.assertEqual(self.noted(), [])
-        (self.top / "crates/sandpile/src/main.rt").write_text("changed")
+        self.change("sandpile", "changed")
         self.assertEqual(self.run_in("./sandpile")[:2], (0, "changed\n"))
+        self.assertEqual(self.proved(), ["sandpile"])
+        self.change("low", "changed")
+        self.assertEqual(self.run_in("./sandpile")[:2], (0, "changed\n"))
+        self.assertEqual(self.proved(), ["low", "sandpile"])
 
-    def test_the_program_is_linked_for_wheels_if_that_can_be(self):
-        rt = self.bin / "rt"
-        lines = rt.read_text().replace("chmod +x out/sandpile", "chmod +x out/sandpile; touch out/sandpile.o").splitlines()
-        stand_in(rt, "[ $1 = doc ] && echo /kit/page && exit", *lines[1:])
-        linked = "cc -static-pie -o sandpile-static sandpile.o /kit/c/libos_c.a /kit/c/liblibc_c.a"
+    def test_the_program_is_linked_for_older_systems_if_that_can_be(self):
+        codes = f"sandpile.o {self.kit}/c/libos_c.a {self.kit}/c/liblibc_c.a".replace(str(self.kit), f"{self.bin}/../kit")
         for status, has_static in ((0, True), (1, False)):  # the second machine has no static C library
             stand_in(self.bin / "cc", 'echo "cc $*" >> "$LOG"', f"[ {status} = 0 ] && touch sandpile-static", f"exit {status}")
-            (self.top / "crates/sandpile/src/main.rt").write_text(f"changed {status}")
+            self.change("sandpile", f"changed {status}")
             self.assertEqual(self.run_in("./sandpile")[:2], (0, f"changed {status}\n"))
-            self.assertIn(linked, self.noted())
+            self.assertIn(f"cc -static-pie -o sandpile-static {codes}", self.noted())
             self.assertEqual("sandpile-static" in self.built("sandpile"), has_static)
 
     def test_another_toolchain_builds_again_if_that_is_asked_for(self):
         self.run_in("./build")
-        stand_in(self.bin / "rt", "[ $1 = version ] && echo another", 'echo "$1" >> "$LOG"')
+        self.is_kit("another")
         self.noted()
         self.assertEqual(self.run_in("./sandpile"), (0, "crates/sandpile/src/main.rt\n", ""))
-        self.assertEqual(self.noted(), [])
+        self.assertEqual(self.proved(), [])
         self.run_in("./build")
-        self.assertIn("run", self.noted())
+        self.assertEqual(self.proved(), ["low", "sandpile"])
 
     @lacks_rt
     def test_without_the_toolchain(self):
@@ -176,7 +205,7 @@ class OfBuild(OfScripts):
         self.assertIn("`rt` is not on the PATH", self.run_in("./sandpile", env=without)[2])
         self.run_in("./build")
         self.assertEqual(self.run_in("./sandpile", env=without), (0, "crates/sandpile/src/main.rt\n", ""))
-        (self.top / "crates/low/src/lib.rt").write_text("changed")
+        self.change("low", "changed")
         status, said, reported = self.run_in("./sandpile", env=without)
         self.assertEqual((status, said), (1, ""))
         self.assertEqual(reported.splitlines(), [
@@ -184,28 +213,15 @@ class OfBuild(OfScripts):
             "build: `rt` is not on the PATH, and it is the Rattle toolchain, which proves and builds everything",
         ])
 
-    def test_a_library_is_packed_and_the_work_of_its_proof_goes(self):
-        self.run_in("./build")
-        self.assertEqual((self.built("low"), self.built("sandpile")), (["rlib.tar.gz"], ["made-from", "sandpile"]))
-        self.noted()
-        (self.top / "crates/sandpile/src/main.rt").write_text("changed")
-        packed = (self.top / "crates/low/out/rlib.tar.gz").stat().st_mtime_ns
-        self.run_in("./build")
-        self.assertEqual(self.noted(), ["lib low", "rlib", "rlib.tar.gz", "run sandpile", "sandpile"])
-        self.assertEqual((self.built("low"), (self.top / "crates/low/out/rlib.tar.gz").stat().st_mtime_ns), (["rlib.tar.gz"], packed))
-        self.assertEqual(self.run_in("./build", "for-rt")[0], 0)
-        self.assertEqual(files_in(self.top / "crates/low/out"), {"rlib/stamp": b"low\n"})
-
-    def test_what_someone_works_with_stays(self):
-        for name in ("rlib", "incremental"):
-            (self.top / "crates/low/out" / name).mkdir(parents=True)
-        self.run_in("./build")
-        self.assertEqual(self.built("low"), ["incremental", "rlib"])
-
     def test_what_a_failed_build_has_proved_is_kept(self):
+        self.run_in("./build")
+        self.change("sandpile", "changed")
         Path(f"{self.log}.fail").touch()
         self.assertEqual(self.run_in("./build")[0], 1)
-        self.assertEqual((self.built("low"), self.built("sandpile")), (["rlib.tar.gz"], ["incremental", "sandpile"]))
+        Path(f"{self.log}.fail").unlink()
+        self.noted()
+        self.run_in("./build", "library")
+        self.assertEqual(self.proved(), ["sand_c"])
 
     def test_what_a_failed_build_has_made_is_not_run(self):
         main, failing = self.top / "crates/sandpile/src/main.rt", Path(f"{self.log}.fail")
@@ -216,20 +232,51 @@ class OfBuild(OfScripts):
         self.assertEqual(self.run_in("./build")[0], 1)
         main.write_text(before)
         failing.unlink()
+        self.noted()
         self.assertEqual(self.run_in("./sandpile")[:2], (0, f"{before}\n"))
+        self.assertEqual(self.proved(), ["sandpile"])
 
-    @needs("cc")
+    def test_a_source_that_changes_while_it_is_proved(self):
+        rattle = self.kit / "bin/rattle"
+        rattle.write_text(rattle.read_text() + '[ $3 = low ] && echo changed > src/lib.rt; true\n')
+        status, _, reported = self.run_in("./build")
+        self.assertEqual((status, (self.top / "crates/low/out/statements/made-from").exists()), (1, False))
+        self.assertIn("low failed: a source has changed meanwhile: start ./build again", reported)
+
+    def test_what_rt_has_proved_stays(self):
+        theirs = self.top / "crates/low/out/rlib/stamp"
+        theirs.parent.mkdir(parents=True)
+        theirs.write_text("theirs")
+        self.run_in("./build")
+        self.assertEqual((self.built("low"), theirs.read_text()), (["rlib", "statements"], "theirs"))
+
+    def test_rt_is_lent_what_is_built(self):
+        (self.kit / "bin/rtlib.py").write_text(
+            "class Crate:\n    def __init__(self, name): self.name = name\n    def stamp(self): return f'stamp of {self.name}'\n"
+            "    def makes_rlib(self): return self.name == 'low'\n"
+            "def crates_below(top): return [Crate('low'), Crate('sandpile')]\n"
+        )
+        self.run_in("./build")
+        self.assertEqual(self.run_in("./build", "for-rt"), (0, "", ""))
+        lent = self.top / "crates/low/out/rlib"
+        self.assertEqual((lent / "stamp").read_text(), "stamp of low")
+        self.assertEqual((lent / "low.rlib/format").read_text(), "crates/low/src/lib.rt")
+        (lent / "low.rlib/format").write_text("theirs")
+        self.run_in("./build", "for-rt")
+        self.assertEqual((lent / "low.rlib/format").read_text(), "theirs")
+
     def test_the_wheel_is_packed_after_both_are_built(self):
         stand_in(self.top / "tools/wheel", 'echo "wheel $*" >> "$LOG"', 'touch "$1/sandpile-2.whl"; echo sandpile-2.whl')
         for name in ("sandpile-1.whl", "theirs.whl"):
             (self.top / "dist").mkdir(exist_ok=True)
             (self.top / "dist" / name).touch()
         status, said, reported = self.run_in("./build", "wheel")
-        self.assertEqual((status, said, reported.splitlines()[-1]), (0, "", "build: dist/sandpile-2.whl is packed"))
+        self.assertEqual((status, said), (0, ""), reported)
+        self.assertIn("build: dist/sandpile-2.whl is packed", reported.splitlines())
         noted = self.noted()
-        self.assertLess(noted.index("run sandpile"), noted.index("lib sand_c"))
+        self.assertEqual([line.partition(" ")[0] for line in noted if " over " in line], ["low", "sandpile", "sand_c"])
         self.assertEqual(noted[-1], f"wheel {self.top}/dist")
-        self.assertEqual(sorted(path.name for path in (self.top / "dist").iterdir()), ["sandpile-2.whl", "theirs.whl"])
+        self.assertEqual(sorted(path.name for path in (self.top / "dist").iterdir()), ["made-by", "made-from", "sandpile-2.whl", "theirs.whl"])
 
     def test_what_is_not_built_is_not_packed(self):
         stand_in(self.top / "tools/wheel", 'echo "wheel $*" >> "$LOG"')
@@ -237,20 +284,104 @@ class OfBuild(OfScripts):
         self.assertEqual(self.run_in("./build", "wheel")[0], 1)
         self.assertNotIn(f"wheel {self.top}/dist", self.noted())
 
-    @needs("cc", "ar")
-    def test_after_ci_nothing_is_left_to_build(self):
-        kit = self.bin.with_name("kit")
-        stand_in(self.bin / "rt", "[ $1 = version ] && echo kit || echo ${0%/*}/../kit/START-HERE.md")
-        stand_in(kit / "bin" / "rattle", "echo 'int sandpile_version;' | cc -x c -c -o part.o - && ar rc libsand_c.a part.o")
-        (kit / "c").mkdir()
-        ran("ar", "rc", kit / "c" / "liblibc_c.a")
-        (self.top / "include/sandpile.map").write_text("{ global: sandpile_version; local: *; };\n")
+    def test_after_ci_only_the_library_is_left_to_build(self):
         stand_in(self.top / "crates/sandpile/out/sandpile", "echo by ci")
-        for words in ([], ["library"]):
+        (self.top / "crates/low/out/rlib/low.rlib").mkdir(parents=True)
+        for words, proved in (([], []), (["library"], ["sand_c"])):
             status, _, reported = self.run_in("./build", "--after-ci", *words)
-            self.assertEqual(status, 0, reported)
+            self.assertEqual((status, self.proved()), (0, proved), reported)
             self.assertEqual(self.run_in("./build", "--if-changed", *words), (0, "", ""))
         self.assertEqual(self.run_in("./sandpile"), (0, "by ci\n", ""))
+
+
+class OfRelease(WithToolchain):
+    """The program that is built here is the system's `echo`, so that it runs from memory, too."""
+
+    def setUp(self):
+        super().setUp()
+        stand_in(self.kit / "bin/rattle-link", "cat /bin/echo sandpile.o > sandpile", "chmod +x sandpile")
+        pack = "import sys, zipfile as z; w = z.ZipFile(sys.argv[1] + '/sandpile-2.whl', 'w'); "
+        for product, name in (("sandpile/out/sandpile", "sandpile-2.data/scripts/sandpile"), ("sand_c/out/libsandpile.so.1", "sandpile/libsandpile.so.1")):
+            pack += f"w.writestr(z.ZipInfo('{name}'), open('crates/{product}', 'rb').read()); "
+        stand_in(self.top / "tools/wheel", f'cd "{self.top}" && python3 -c "{pack} w.close()" "$1" && echo sandpile-2.whl')
+        self.program, self.wheel = self.top / "crates/sandpile/out/sandpile", self.top / "dist/sandpile-2.whl"
+        self.assertEqual(self.run_in("./build", "release")[0], 0)
+        self.noted()
+
+    def last_line(self, *words):
+        status, said, reported = self.run_in(*words)
+        self.assertEqual(said, "")
+        return status, reported.splitlines()[-1]
+
+    def remove_what_is_built(self):
+        for crate in self.top.joinpath("crates").iterdir():
+            shutil.rmtree(crate / "out", ignore_errors=True)
+
+    @needs("sha256sum")
+    def test_the_checksums(self):
+        checked = subprocess.run(["sha256sum", "-c", "release/SHA256SUMS"], cwd=self.top, capture_output=True, text=True)
+        folders = ["crates/sandpile/out/", "crates/sand_c/out/", "dist/"]
+        files = [f"{folder}{name}" for folder, product in zip(folders, ("sandpile", "libsandpile.so.1", "sandpile-2.whl")) for name in ("made-from", product)]
+        self.assertEqual((checked.returncode, checked.stdout), (0, "".join(f"{file}: OK\n" for file in files)))
+        self.assertEqual((self.top / "release/SHA256SUMS").read_text().splitlines()[0], "# proved by kit")
+
+    def test_the_same_bytes(self):
+        said = "build: crates/sandpile/out/sandpile has the same bytes as in release/SHA256SUMS: this machine has proved what the release is"
+        self.assertEqual(self.last_line("./build"), (0, said))
+        self.remove_what_is_built()
+        self.assertEqual(self.last_line("./build"), (0, said))
+        self.assertEqual(self.last_line("./build", "wheel"), (0, said.replace("crates/sandpile/out/sandpile", "dist/sandpile-2.whl")))
+
+    def test_a_bit_is_flipped(self):
+        for file, words in ((self.program, []), (self.top / "crates/sand_c/out/libsandpile.so.1", ["library"])):
+            content = bytearray(file.read_bytes())
+            content[-1] ^= 1
+            file.write_bytes(content)
+            status, line = self.last_line("./build", *words)
+            self.assertEqual(status, 1)
+            self.assertIn(f"build: {file.relative_to(self.top)} has other bytes than in release/SHA256SUMS, which is of the same sources and kit", line)
+
+    def test_another_kit_may_make_other_bytes(self):
+        self.is_kit("another")
+        self.assertIn("has the same bytes", self.last_line("./build")[1])
+        link = self.kit / "bin/rattle-link"
+        link.write_text(link.read_text().replace("/bin/echo", "/bin/true"))
+        self.is_kit("a third")
+        said = "build: crates/sandpile/out/sandpile has other bytes than in release/SHA256SUMS, which kit proved: that kit's compiler may differ"
+        self.assertEqual(self.last_line("./build"), (0, said))
+
+    def test_other_sources(self):
+        self.change("low", "changed")
+        said = "build: crates/sandpile/out/sandpile is made from other sources than those of release/SHA256SUMS"
+        self.assertEqual(self.last_line("./build"), (0, said))
+
+    def test_the_released_program_runs_where_nothing_is_built(self):
+        self.remove_what_is_built()
+        without = {**self.env, "PATH": SYSTEM}
+        said = "sandpile: the released program, made from these sources; not proved on this machine\n"
+        for folder in self.top.rglob("*"):
+            folder.chmod(0o555)
+        self.assertEqual(self.run_in("./sandpile", "settle", "it", env=without), (0, "settle it\n", said))
+        self.assertEqual(self.run_in("./sandpile", env=without), (0, "\n", said))
+
+    @lacks_rt
+    def test_a_changed_source_is_built_and_not_taken_from_the_release(self):
+        self.remove_what_is_built()
+        self.change("low", "changed")
+        without = {**self.env, "PATH": SYSTEM}
+        self.assertIn("`rt` is not on the PATH", self.run_in("./sandpile", "settle", env=without)[2])
+
+    def test_a_wheel_with_another_checksum_is_refused(self):
+        self.remove_what_is_built()
+        self.wheel.write_bytes(self.wheel.read_bytes() + b" ")
+        status, line = self.last_line("./sandpile", "settle")
+        self.assertEqual(status, 1)
+        self.assertRegex(line, r"^build: .*/dist/sandpile-2.whl has another checksum than in release/SHA256SUMS, so it is not what was released")
+        self.assertEqual(self.proved(), [])
+
+    def test_what_is_built_comes_before_the_released_program(self):
+        self.wheel.write_bytes(b"garbage")
+        self.assertEqual(self.run_in("./sandpile", "settle"), (0, "settle\n", ""))
 
 
 HANDLE = """\

@@ -22,7 +22,6 @@ from sandpile import _library
 from tools import LIBRARY, PROGRAM, TOP, files_in, needs, needs_module, new_folder, ran
 
 SHARED = LIBRARY / "libsandpile.so.1"
-PACKED = STATIC if STATIC.exists() else PROGRAM
 NAME = f"sandpile-{sandpile.__version__}"
 NUMBER = sum(int(part) * scale for part, scale in zip(sandpile.__version__.split("."), (10000, 100, 1)))
 # What earlier builds and other programs left in python/.
@@ -38,11 +37,12 @@ print(sandpile.settle([[0, 4, 0]]).topplings, sandpile.lab([[0]], drops=3, epoch
 
 def new_checkout(folder):
     """A copy of what a wheel is packed from, with what others left there."""
-    assert PACKED.exists(), "the program is not built: run ./build first"
+    assert PROGRAM.exists(), "the program is not built: run ./build first"
     top = folder / "a checkout"
     for name in ("tools", "include", "python"):
         shutil.copytree(TOP / name, top / name, ignore=shutil.ignore_patterns("tests", "__pycache__", "build", "*.egg-info"))
-    for path in {PROGRAM, PACKED, SHARED}:
+    shutil.copy2(TOP / "crates.txt", top)
+    for path in filter(Path.exists, (PROGRAM, STATIC, SHARED)):
         copy = top / path.relative_to(TOP)
         copy.parent.mkdir(parents=True, exist_ok=True)
         shutil.copy2(path, copy)
@@ -70,8 +70,8 @@ class Packed(unittest.TestCase):
         with zipfile.ZipFile(wheel_of(self.top)) as wheel:
             self.assertEqual(sorted(wheel.namelist()), sorted(modules | others))
             self.assertEqual(wheel.read("sandpile/libsandpile.so.1"), SHARED.read_bytes())
-            self.assertEqual(wheel.read(f"{NAME}.data/scripts/sandpile"), PACKED.read_bytes())
-            page = ran(TOP / "tools" / "man-page", PACKED)
+            self.assertEqual(wheel.read(f"{NAME}.data/scripts/sandpile"), PROGRAM.read_bytes())
+            page = ran(TOP / "tools" / "man-page", PROGRAM)
             self.assertEqual(wheel.read(f"{NAME}.data/data/share/man/man1/sandpile.1").decode(), page)
 
     def test_each_file_is_recorded(self):
@@ -90,8 +90,8 @@ class Packed(unittest.TestCase):
             path.chmod(0o700)
         with zipfile.ZipFile(wheel_of(self.top)) as wheel:
             modes = {info.filename: info.external_attr >> 16 for info in wheel.infolist()}
-        executable = {"sandpile/libsandpile.so.1", f"{NAME}.data/scripts/sandpile"}
-        self.assertEqual(modes, {name: stat.S_IFREG | (0o755 if name in executable else 0o644) for name in modes})
+        executable = f"{NAME}.data/scripts/sandpile"
+        self.assertEqual(modes, {name: stat.S_IFREG | (0o755 if name == executable else 0o644) for name in modes})
 
     def test_two_wheels_of_the_same_files_are_the_same(self):
         first = wheel_of(self.top)
@@ -117,7 +117,6 @@ class Packed(unittest.TestCase):
 
     @needs("objdump")
     def test_its_name_says_which_glibc_it_needs(self):
-        self.has_only_the_program_of_this_machine()
         symbols = "".join(ran("objdump", "-T", path) for path in (PROGRAM, SHARED))
         newest = max(int(minor) for minor in re.findall(r"\bGLIBC_2\.(\d+)", symbols))
         self.assertEqual(self.platform(), "manylinux2014_x86_64" if newest <= 17 else f"manylinux_2_{newest}_x86_64")
@@ -126,13 +125,12 @@ class Packed(unittest.TestCase):
     @needs("objdump")
     def test_the_program_runs_on_older_systems(self):
         self.assertNotIn("NEEDED", ran("objdump", "-p", STATIC))
-        self.assertEqual(self.platform(), "manylinux2014_x86_64")
+        self.assertEqual(self.platform("--static"), "manylinux2014_x86_64")
         words = ["lab", "--seed=7", "--droppers=4", "--drops=1000", "--workers=2", "--sweeps=9", "--observers=1"]
         theirs, ours = (ran(path, *words, input="3 2  9 0 0 0 0 4") for path in (PROGRAM, STATIC))
         self.assertEqual(ours, theirs)
 
     def test_a_newer_glibc_than_before(self):
-        self.has_only_the_program_of_this_machine()
         before = self.platform()
         for product in (PROGRAM, SHARED):
             for version, platform in [("2.5", before), ("2.3.4", before), ("2.999", "manylinux_2_999_x86_64")]:
@@ -142,21 +140,17 @@ class Packed(unittest.TestCase):
             shutil.copy2(product, self.top / product.relative_to(TOP))
 
     def test_what_no_name_of_a_wheel_says_is_refused(self):
-        self.has_only_the_program_of_this_machine()
         for version in ("PRIVATE", "ABI_DT_RELR", "3.0"):
             self.needs_glibc(PROGRAM, version)
             self.is_refused(f"sandpile needs GLIBC_{version}, which the name of a wheel cannot say")
-
-    def has_only_the_program_of_this_machine(self):
-        (self.top / STATIC.relative_to(TOP)).unlink(missing_ok=True)
 
     def needs_glibc(self, product, version):
         """Appends to a product, which works as before, the name of a version of glibc."""
         (self.top / product.relative_to(TOP)).write_bytes(product.read_bytes() + f"\0GLIBC_{version}\0".encode())
 
-    def platform(self):
+    def platform(self, *words):
         """The platform that a wheel names twice."""
-        path = wheel_of(self.top)
+        path = wheel_of(self.top, *words)
         with zipfile.ZipFile(path) as wheel:
             tag = re.search(r"^Tag: (.*)$", wheel.read(f"{NAME}.dist-info/WHEEL").decode(), re.M)[1]
         self.assertEqual(path.name, f"{NAME}-{tag}.whl")
@@ -197,12 +191,11 @@ class Packed(unittest.TestCase):
         self.has_library(90203, ["sandpile_version"])
         self.is_refused(f"libsandpile.so.1 has version 9.2.3, but the module has version {sandpile.__version__}")
         shutil.copy2(SHARED, self.top / SHARED.relative_to(TOP))
-        (self.top / PACKED.relative_to(TOP)).write_text("#!/bin/sh\necho 'sandpile 9.2.3, logic 13'\n")
-        self.is_refused(f"{PACKED.name} has version 9.2.3, but the module has version {sandpile.__version__}")
+        (self.top / PROGRAM.relative_to(TOP)).write_text("#!/bin/sh\necho 'sandpile 9.2.3, logic 13'\n")
+        self.is_refused(f"{PROGRAM.name} has version 9.2.3, but the module has version {sandpile.__version__}")
 
     def test_without_the_program_an_older_glibc_is_enough(self):
-        for path in {PROGRAM, PACKED}:
-            (self.top / path.relative_to(TOP)).unlink()
+        (self.top / PROGRAM.relative_to(TOP)).unlink()
         self.assertEqual(self.platform(), "manylinux2014_x86_64")
         with zipfile.ZipFile(wheel_of(self.top)) as wheel:
             self.assertEqual([name for name in wheel.namelist() if ".data/" in name], [])
@@ -287,6 +280,22 @@ class Installed(unittest.TestCase):
             with self.subTest(words):
                 self.pip(python, "install", *words, top / "python")
                 self.assertRegex(self.tried(python), rf"^1 \[\[3\]\] {place}/libsandpile.so.1$")
+
+    def test_from_a_checkout_with_the_released_wheel(self):
+        top, python = new_checkout(new_folder(self)), self.environment(new_folder(self))
+        (top / "dist").mkdir()
+        wheel = Path(shutil.move(wheel_of(top), top / "dist"))
+        code = "import sys; sys.path.insert(0, sys.argv[1]); import products as p; print(end=p.sources(sys.argv[2]))"
+        sums = [f"{hashlib.sha256(wheel.read_bytes()).hexdigest()}  dist/{wheel.name}\n"]
+        for crate in ("sandpile", "sand_c"):
+            shutil.rmtree(top / "crates" / crate)
+            sources = ran(sys.executable, "-c", code, top / "tools", crate)
+            sums.append(f"{hashlib.sha256(sources.encode()).hexdigest()}  crates/{crate}/out/made-from\n")
+        (top / "release").mkdir()
+        (top / "release" / "SHA256SUMS").write_text("".join(sums))
+        self.pip(python, "install", top / "python")
+        self.assertRegex(self.tried(python), rf"^1 \[\[3\]\] {python.parents[1]}/lib.*/libsandpile.so.1$")
+        self.assertEqual(self.ran_there(python.with_name("sandpile"), "identity", "--width=1", "--height=1"), "1 1\n0\n")
 
     def test_there_is_no_source_distribution(self):
         words = [sys.executable, "-B", "-c", "import backend; backend.build_sdist('.')"]
