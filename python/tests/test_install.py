@@ -15,6 +15,8 @@ from tools import LIBRARY, PROGRAM, TOP, files_in, needs, needs_module, new_fold
 
 PATHS = ("PATH", "PYTHONPATH", "PKG_CONFIG_PATH", "LD_LIBRARY_PATH")
 
+SHARED_AND_STATIC = (LIBRARY / "libsandpile.so.1", LIBRARY / "libsandpile.a")
+
 TRIED = """
 import sandpile, numpy as np
 from sandpile import _library
@@ -65,13 +67,13 @@ class ByInstall(unittest.TestCase):
         self.top, self.log, self.prefix = self.folder / "a checkout", self.folder / "log", self.folder / "prefix"
         for name in ("tools", "include", "python"):
             shutil.copytree(TOP / name, self.top / name, ignore=shutil.ignore_patterns("tests", "__pycache__", "build", "*.egg-info"))
-        for path in (TOP / "install", PROGRAM, LIBRARY / "libsandpile.so.1"):
+        for path in (TOP / "install", PROGRAM, *SHARED_AND_STATIC):
             copy = self.top / path.relative_to(TOP)
             copy.parent.mkdir(parents=True, exist_ok=True)
             shutil.copy2(path, copy)
         stand_in(self.top / "build", f'echo "build $*" >> {shlex.quote(str(self.log))}')
         self.has_loader(knows=self.folder / "elsewhere")
-        names = ("DESTDIR", "VIRTUAL_ENV", *PATHS[1:])
+        names = ("DESTDIR", "LIBDIR", "VIRTUAL_ENV", *PATHS[1:])
         self.env = {name: value for name, value in os.environ.items() if name not in names}
         self.env["PATH"] = f"{self.folder}/bin:{os.environ['PATH']}"
         self.prefix.mkdir()
@@ -143,6 +145,8 @@ class ByInstall(unittest.TestCase):
         self.installed(self.prefix / "new")
         modes = {path: stat.S_IMODE(path.stat().st_mode) for path in (self.prefix / "new", *self.prefix.rglob("*"))}
         self.assertEqual({path for path, mode in modes.items() if not mode & 0o044 or (path.is_dir() and mode != 0o755)}, set())
+        programs = {path for path, mode in modes.items() if mode & 0o111 and path.is_file()}
+        self.assertEqual(programs, {self.prefix / "new/bin/sandpile"})
         self.assertEqual(modes[self.prefix / "new/bin/sandpile"], 0o755)
 
     def test_uninstall_removes_what_was_installed_and_nothing_else(self):
@@ -196,6 +200,48 @@ class ByInstall(unittest.TestCase):
         self.assertEqual(ran(prefix / "bin/sandpile", "--version").partition(",")[0], f"sandpile {sandpile.__version__}")
         self.installed("--uninstall", prefix)
         self.assertFalse(prefix.exists())
+
+    def test_completions_are_where_shells_look(self):
+        is_debian = Path("/etc/debian_version").exists()  # whose zsh does not look into /usr/share/zsh/site-functions
+        for prefix, zsh in (("/usr", "vendor-completions" if is_debian else "site-functions"), ("/usr/local", "site-functions")):
+            stage = new_folder(self)
+            self.installed(prefix, DESTDIR=str(stage))
+            found = {name.removeprefix(f"{prefix[1:]}/share/") for name in files_in(stage) if name.startswith(f"{prefix[1:]}/share/")}
+            with self.subTest(prefix):
+                shells = {"bash-completion/completions/sandpile", f"zsh/{zsh}/_sandpile", "fish/vendor_completions.d/sandpile.fish"}
+                self.assertEqual(found, {*shells, "man/man1/sandpile.1", "sandpile/installed"})
+
+    def test_libdir_is_where_the_library_is(self):
+        elsewhere = self.folder / "else where"
+        for libdir, place in (("lib/x86_64", self.prefix / "lib/x86_64"), (str(elsewhere), elsewhere), ("", self.prefix / "lib")):
+            self.has_loader(knows=place)
+            self.log.write_text("")
+            said, lines = self.installed(self.prefix, LIBDIR=libdir)
+            with self.subTest(libdir):
+                names = ("libsandpile.so.1", "libsandpile.so", "libsandpile.a", "pkgconfig/sandpile.pc")
+                self.assertEqual({str(place / name) for name in names} - said, set())
+                self.assertEqual(set(self.folder.rglob("*.pc")), {place / "pkgconfig/sandpile.pc"})
+                module = self.prefix / "lib/python3/site-packages/sandpile"
+                self.assertEqual((module / "libsandpile.so.1").resolve(), place / "libsandpile.so.1")
+                shown = str(place).replace(str(self.prefix), "${prefix}", 1).replace(" ", "\\ ")
+                self.assertIn(f"libdir={shown}\n", (place / "pkgconfig/sandpile.pc").read_text())
+                self.assertIn(f"{place}/pkgconfig", "".join(lines))
+                self.installed("--uninstall", self.prefix)
+                self.assertEqual(self.noted()[-2:], ["ldconfig"] * 2)
+                self.assertEqual((list(self.prefix.iterdir()), elsewhere.exists()), ([], False))
+                self.installed(self.prefix, LIBDIR="lib/older")  # which goes with the next install
+
+    @needs("cc", "pkg-config")
+    def test_a_program_links_with_the_static_library_alone(self):
+        self.installed(self.prefix)
+        flags = ran("pkg-config", "--static", "--cflags", "--libs", self.prefix / "lib/pkgconfig/sandpile.pc").split()
+        shared = flags.index("-lsandpile")
+        ways = {"all": ["-static", *flags], "one": [*flags[:shared], "-l:libsandpile.a", *flags[shared + 1 :]]}
+        for name, words in ways.items():
+            ran("cc", TOP / "examples" / "settle.c", *words, "-o", self.folder / name, env={"PATH": "/usr/bin:/bin"})
+        shutil.rmtree(self.prefix)
+        for name in ways:
+            self.assertIn("257 wide: ", ran(self.folder / name))
 
     @needs_module("venv")
     def test_an_active_environment_has_the_module(self):
