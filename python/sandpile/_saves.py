@@ -54,8 +54,9 @@ class Saved:
 def write(path: str | os.PathLike[str], saved: Saved) -> None:
     """Writes a file under a name that no other call uses, then renames it: nobody ever reads a part of it."""
     path, content = _npz(path), io.BytesIO()
+    arrays: dict[str, Any] = {name: np.asarray(value, _type_of(name)) for name, value in vars(saved).items()}
     # Not into the file: if writing to it failed, zipfile would go on, and fail in its `__del__`, too.
-    np.savez_compressed(content, **{name: np.asarray(value, _type_of(name)) for name, value in vars(saved).items()})
+    np.savez_compressed(content, **arrays)
     beside = path.with_name(f"{path.name}.{os.urandom(8).hex()}.part")
     try:
         with open(beside, "xb") as file:

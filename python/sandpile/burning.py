@@ -13,7 +13,7 @@ from typing import Any
 import numpy as np
 from numpy.typing import ArrayLike, NDArray
 
-from ._arrays import Heights, heights_and_edge
+from ._arrays import Heights, heights_and_edge, listed
 from ._library import call
 from ._png import Pictured, ma
 from ._results import Result
@@ -115,8 +115,8 @@ def _times(heights: Heights, cylinder: bool) -> NDArray[np.int64]:
     """In which step each site burns, from 1 on, or -1. Each site is visited once, however many steps there are."""
     neighbours = _neighbours(heights.shape, cylinder)
     awaited = np.count_nonzero(neighbours < heights.size, axis=0) - heights.ravel()
-    front = np.flatnonzero(awaited <= 0).tolist()
-    sides, left = neighbours.tolist(), [*awaited.tolist(), 0]
+    front = listed(np.flatnonzero(awaited <= 0))
+    sides, left = listed(neighbours), [*listed(awaited), 0]
     times, now = np.full(heights.size, -1, np.int64), 0
     while front:
         now += 1

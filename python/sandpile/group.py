@@ -21,6 +21,12 @@ from .settling import settle
 _GRAIN_BITS = 40
 
 
+def _refuse_array(other: object) -> None:
+    """Raises an error for an array, before its class can take the heights site by site, as masked arrays do."""
+    if isinstance(other, np.ndarray):
+        raise TypeError("the group adds elements, and multiplies them by integers; recurrent(array) is the element of an array")
+
+
 class Recurrent(HasPile):
     """A recurrent pile, as an element of the group of its grid.
 
@@ -163,47 +169,48 @@ class Recurrent(HasPile):
     def _is_beside(self, other: Recurrent) -> bool:
         return self.shape == other.shape and self._cylinder == other._cylinder
 
-    def _refuse(self, other: object) -> Recurrent:
-        """Raises an error for an array, before its class can take the heights site by site, as masked arrays do."""
-        if isinstance(other, np.ndarray):
-            raise TypeError(
-                "the group adds elements, and multiplies them by integers; recurrent(array) is the element of an array"
-            )
-        return NotImplemented
-
-    def _has_no_order(self, other: object) -> bool:
-        """Raises an error for an array, as `_refuse` does."""
-        if isinstance(other, np.ndarray):
-            raise TypeError("elements of the group have no order; the array `.pile` of one has")
-        return NotImplemented
-
     if not TYPE_CHECKING:  # so that a type checker refuses these operators, too
+
+        def _refuse(self, other: object) -> Any:
+            _refuse_array(other)
+            return NotImplemented
+
+        def _has_no_order(self, other: object) -> Any:
+            if isinstance(other, np.ndarray):
+                raise TypeError("elements of the group have no order; the array `.pile` of one has")
+            return NotImplemented
+
         __truediv__ = __floordiv__ = __mod__ = __pow__ = __matmul__ = _refuse
         __rsub__ = __rtruediv__ = __rfloordiv__ = __rmod__ = __rpow__ = __rmatmul__ = _refuse
         __lt__ = __le__ = __gt__ = __ge__ = _has_no_order
 
     def __add__(self, other: Recurrent) -> Recurrent:
         if not isinstance(other, Recurrent):
-            return self._refuse(other)
+            _refuse_array(other)
+            return NotImplemented
         if not self._is_beside(other):
             raise Fault(9)
         return self._made("add", other._pile)
 
     def __radd__(self, other: int) -> Recurrent:
         """``0 + a``, with which `sum` begins."""
-        return self if type(other) is int and other == 0 else self._refuse(other)
+        if type(other) is int and other == 0:
+            return self
+        _refuse_array(other)
+        return NotImplemented
 
     def __neg__(self) -> Recurrent:
         return self._made("inverse")
 
     def __sub__(self, other: Recurrent) -> Recurrent:
         if not isinstance(other, Recurrent):
-            return self._refuse(other)
+            _refuse_array(other)
+            return NotImplemented
         return self + -other
 
     def __mul__(self, times: SupportsIndex) -> Recurrent:
         if isinstance(times, np.ndarray) and (times.ndim or type(times) is not np.ndarray):
-            return self._refuse(times)
+            _refuse_array(times)
         try:
             n = index_of(times, "a multiple")
         except TypeError:

@@ -14,7 +14,7 @@ from typing import SupportsIndex
 import numpy as np
 from numpy.typing import ArrayLike, NDArray
 
-from ._arrays import HasPile, Heights, heights_and_edge, index_of, seed_of
+from ._arrays import HasPile, Heights, heights_and_edge, index_of, listed, seed_of
 from ._results import Result
 from .faults import Fault
 
@@ -75,7 +75,7 @@ def _program() -> str:
 
 def _text_of(heights: Heights, cylinder: bool) -> str:
     height, width = heights.shape
-    rows = (" ".join(map(str, row)) for row in heights.view(np.uint64).tolist())
+    rows = (" ".join(map(str, row)) for row in listed(heights.view(np.uint64)))
     return "\n".join([f"{width} {height}{' c' if cylinder else ''}", *rows, ""])
 
 

@@ -2,7 +2,7 @@
 
 from __future__ import annotations
 
-from typing import TYPE_CHECKING, Any
+from typing import TYPE_CHECKING, Any, overload
 
 import numpy as np
 from numpy.typing import ArrayLike, NDArray
@@ -19,6 +19,15 @@ _PIXELS_AN_INCH = 128
 # For a colour bar, in pixels: its width, its distance from the picture and from the ends of the figure, what the figure is
 # wider with it, and the least height. Then the size of its text, in points.
 _BAR, _GAP, _ROOM, _LEAST_HEIGHT, _TEXT = 16, 14, 120, 128, 8
+
+
+# Matplotlib's types say of all axes that they may be on a subfigure, which has no `savefig`. New ones are not.
+@overload
+def show(pile: ArrayLike | Pictured, ax: None = None) -> Any: ...
+
+
+@overload
+def show(pile: ArrayLike | Pictured, ax: Axes) -> Axes: ...
 
 
 def show(pile: ArrayLike | Pictured, ax: Axes | None = None) -> Axes:

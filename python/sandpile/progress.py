@@ -3,6 +3,7 @@
 from __future__ import annotations
 
 import contextlib
+import importlib
 import sys
 import time
 import warnings
@@ -25,8 +26,7 @@ class Bar:
         try:
             with warnings.catch_warnings():
                 warnings.simplefilter("ignore")  # in a notebook without ipywidgets the bar is text, which is fine
-                from tqdm.auto import tqdm
-
+                tqdm: Any = importlib.import_module("tqdm.auto").tqdm
             self._lock = tqdm.get_lock()
             self._tqdm = tqdm(total=self._total, unit="drop", unit_scale=True)
         except Exception:

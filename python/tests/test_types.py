@@ -18,7 +18,7 @@ strict = True
 ignore_missing_imports = True
 [mypy-numpy.*,sandpile.*]
 ignore_missing_imports = False
-[mypy-distributed.*,matplotlib.*,tqdm.*]
+[mypy-distributed.*,tqdm.*]
 follow_imports = skip
 [mypy-pages.*]
 disallow_untyped_defs = False
@@ -111,6 +111,7 @@ assert_type(done.seed, int)
 assert_type(sandpile.AVALANCHE, np.dtype[np.void])
 assert_type(sandpile.Fault(3).number, int)
 assert_type(sandpile.show(a), Any)
+sandpile.show(a).figure.savefig("a.png")
 sandpile.show(b)
 sandpile.show(b.forbidden, ax=sandpile.show([[1, 2]]))
 sandpile.animate(run, np.int64(5), toppling=True, interval=50).save("run.gif")
