@@ -11,6 +11,8 @@
    Pointers must not be null, even if the length is 0, and no two pointers of one call may point to the same memory. No
    state is kept between calls, except behind handles (below): threads may call concurrently, on different arrays.
 
+   The library needs a processor of x86-64-v2, as most since 2009 are; on another one, a call ends the program by SIGILL.
+
    A call needs at most 24 KiB of stack. Do not call from a signal handler, or in a forked child if its parent had several
    threads. Memory comes from `malloc`, `realloc` and `free`. In a program that replaces them, all three must belong to one
    allocator, and the address of a block must be a multiple of each power of two up to 16 that divides the block's size. */

@@ -27,7 +27,7 @@ Examples
 --------
 >>> import numpy as np, sandpile
 >>> s = sandpile.settle(np.full((64, 64), 5))
->>> int(s.pile.max()), s.topplings == s.odometer.sum()
+>>> int(s.pile.max()), s.topplings == int(s.odometer.sum())
 (3, True)
 """
 

@@ -36,7 +36,23 @@ class HasPile(Pictured):
         def cylinder(self) -> bool: ...
 
     def __array__(self, dtype: Any = None, copy: bool | None = None) -> NDArray[Any]:
+        if copy is False:
+            return self._uncopied(dtype)
         return np.array(self.pile, dtype=dtype)
+
+    def _uncopied(self, dtype: Any) -> NDArray[Any]:
+        """The heights where they are, which may be read-only, or a ValueError."""
+        heights = self.pile
+        if heights is not self.pile:
+            raise ValueError(f"the heights of a {type(self).__name__} are copied whenever they are read, but copy=False forbids it")
+        if dtype is not None and np.dtype(dtype) != heights.dtype:
+            raise ValueError(f"heights of type {heights.dtype} become {np.dtype(dtype)} only in a copy, but copy=False forbids it")
+        return heights
+
+
+def listed(array: NDArray[Any]) -> Any:
+    """An array as lists. NumPy's versions have different types for them."""
+    return array.tolist()
 
 
 def _integers(values: ArrayLike, what: str) -> NDArray[Any]:

@@ -16,6 +16,9 @@ _HERE = Path(__file__).resolve().parent
 _CHECKOUT = _HERE.parent.parent / "crates" / "sand_c" / "out"
 # The major version of include/sandpile.h that the declarations below are for.
 _MAJOR = 1
+# What tells of the processor, and what it must have, by the names there: that is x86-64-v2.
+_PROCESSOR = Path("/proc/cpuinfo")
+_NEEDED = ("cx16", "lahf_lm", "pni", "popcnt", "sse4_1", "sse4_2", "ssse3")
 
 _SIDES = (ctypes.c_size_t, ctypes.c_size_t, ctypes.c_bool)
 _ARRAY = (ctypes.c_void_p, ctypes.c_size_t)
@@ -61,7 +64,23 @@ def _places() -> list[str]:
     return [*(str(file) for file in files if file.exists()), _NAME]
 
 
+def _check_processor() -> None:
+    """Raises an error if this processor is too old: a call of the library would end the program."""
+    try:
+        with open(_PROCESSOR, "rb") as file:
+            flags = next((line.split()[2:] for line in file if line.startswith(b"flags")), None)
+    except OSError:
+        return
+    missing = [name for name in _NEEDED if flags and name.encode() not in flags]
+    if missing:
+        raise ImportError(
+            f"libsandpile needs a processor of x86-64-v2, but this one lacks {', '.join(missing)} (a virtual machine has what "
+            "its model of a processor has; that of qemu64 is too old)"
+        )
+
+
 def _load() -> ctypes.CDLL:
+    _check_processor()
     place = _places()[0]
     try:
         library = ctypes.CDLL(place)

@@ -4,7 +4,7 @@ from __future__ import annotations
 
 import copy
 import sys
-from collections.abc import Iterator
+from collections.abc import Generator, Iterator
 from typing import TYPE_CHECKING, SupportsIndex
 
 import numpy as np
@@ -18,6 +18,7 @@ from .pictures import check_matplotlib, new_axes
 if TYPE_CHECKING:
     from matplotlib.animation import FuncAnimation
     from matplotlib.axes import Axes
+    from matplotlib.image import AxesImage
 
 # A frame has a number for each site: its grains, and this much more if it has toppled. A site that topples next has the last
 # number.
@@ -85,15 +86,21 @@ def animate(
     colours = ListedColormap(np.concatenate([plain, (1 - _TINT) * plain + _TINT * red, red]) / 255)
     image = ax.imshow(start.pile, cmap=colours, vmin=-0.5, vmax=_TOPPLES + 0.5, interpolation="nearest")
     ax.set_axis_off()
+    figure = ax.figure.figure  # that of a subfigure is the whole one, which alone can be saved
     frames = _steps if toppling else _drops
+
+    def draw(heights: Heights) -> tuple[AxesImage, ...]:
+        image.set_data(heights)
+        return (image,)
+
     # Each time that the animation begins, another copy makes the drops.
     return FuncAnimation(
-        ax.figure, image.set_data, lambda: frames(copy.copy(start), number), lambda: (image,),
+        figure, draw, lambda: frames(copy.copy(start), number), lambda: (image,),
         interval=interval, save_count=sys.maxsize if toppling else number, cache_frame_data=False,
     )
 
 
-def _drops(run: Drive, drops: int) -> Iterator[Heights]:
+def _drops(run: Drive, drops: int) -> Generator[Heights, None, None]:
     """A frame for each drop."""
     before = run.odometer
     for _ in range(drops):
@@ -103,7 +110,7 @@ def _drops(run: Drive, drops: int) -> Iterator[Heights]:
         before = after
 
 
-def _steps(run: Drive, drops: int) -> Iterator[Heights]:
+def _steps(run: Drive, drops: int) -> Generator[Heights, None, None]:
     """A frame before the first step of each avalanche, and one after each of its steps."""
     for _ in range(drops):
         heights = run.pile

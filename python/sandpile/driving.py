@@ -150,7 +150,7 @@ class Drive(HasPile):
     >>> table = run.drop(1000)
     >>> table.dtype.names
     ('number', 'site', 'size', 'area', 'reach', 'lost')
-    >>> run.drops == len(table) == 1000, run.lost == table["lost"].sum()
+    >>> run.drops == len(table) == 1000, run.lost == int(table["lost"].sum())
     (True, True)
     """
 
@@ -341,7 +341,7 @@ class Drive(HasPile):
         return self._drop(asked, progress, draws=True)
 
     def _drop_with_odometers(self, n: SupportsIndex, progress: bool) -> tuple[NDArray[np.void], Heights]:
-        topplings = _NO_HEIGHTS
+        topplings: Heights = _NO_HEIGHTS
 
         def asked() -> _Wanted:
             nonlocal topplings
@@ -469,7 +469,7 @@ class Drive(HasPile):
         --------
         >>> import sandpile
         >>> row, topplings = sandpile.Drive([[3, 3, 1]]).avalanche(0)
-        >>> row["size"], row["reach"], topplings
+        >>> int(row["size"]), int(row["reach"]), topplings
         (2, 1, array([[1, 1, 0]]))
         """
         topplings = np.empty(self._shape, np.int64)

@@ -90,6 +90,17 @@ class Animate(unittest.TestCase):
         self.assertEqual((len(axes.images), animation.event_source.interval), (1, 20))
         plt.close(figure)
 
+    @needs_module("PIL")
+    def test_axes_of_a_subfigure(self):
+        import matplotlib.pyplot as plt
+
+        figure, folder = plt.figure(), new_folder(self)
+        left, right = figure.subfigures(1, 2)
+        animation = sandpile.animate(sandpile.Drive([[3, 3]]), 2, ax=right.subplots())
+        animation.save(folder / "run.gif", writer="pillow")
+        self.assertGreater((folder / "run.gif").stat().st_size, 100)
+        plt.close(figure)
+
     def test_what_is_refused(self):
         self.assertRaises(TypeError, sandpile.animate, [[3]])
         self.assertRaises(TypeError, sandpile.animate, sandpile.Drive([[3]]), 1.5)

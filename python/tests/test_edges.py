@@ -58,6 +58,20 @@ class Edges(unittest.TestCase):
                 self.assertIs(carrier.cylinder, cylinder)
                 self.assertTrue(same(np.asarray(carrier), carrier.pile))
                 self.assertEqual(np.asarray(carrier, float).dtype, float)
+
+    def test_no_copy_where_none_is_allowed(self):
+        for name, _, carrier in self.carriers():
+            with self.subTest(carrier=name):
+                for copy in (None, True):
+                    self.assertFalse(np.shares_memory(carrier.__array__(copy=copy), carrier.pile))
+                if name == "Drive":  # whose heights are the library's
+                    self.assertRaisesRegex(ValueError, "are copied .* but copy=False forbids it", carrier.__array__, copy=False)
+                    continue
+                for dtype in (None, np.int64):
+                    self.assertIs(carrier.__array__(dtype, copy=False), carrier.pile)
+                self.assertRaisesRegex(ValueError, "only in a copy, but copy=False", carrier.__array__, float, copy=False)
+                if np.lib.NumpyVersion(np.__version__) >= "2.0.0":  # before, copy=False allows a copy
+                    self.assertTrue(np.shares_memory(np.array(carrier, copy=False), carrier.pile))
                 np.array(carrier)[...] = 9
                 self.assertLess(carrier.pile.max(), 4)
 

@@ -24,6 +24,24 @@ class Loaded(unittest.TestCase):
         ran("cc", "-shared", "-fPIC", folder / "made.c", "-o", folder / "made.so")
         return folder / "made.so"
 
+    def test_an_old_processor_is_refused(self):
+        flags = "fpu sse sse2 syscall nx lm cx16 lahf_lm pni popcnt sse4_1 sse4_2 ssse3".split()
+        told = new_folder(self) / "cpuinfo"
+        with mock.patch.object(_library, "_PROCESSOR", told):
+            for missing in ([], ["sse4_2"], ["popcnt", "ssse3"]):
+                has = [name for name in flags if name not in missing]
+                told.write_text(f"processor\t: 0\nmodel name\t: \u00ae\nflags\t\t: {' '.join(has)}\nflags\t\t: fpu\n", "utf-8")
+                if missing:
+                    with self.assertRaisesRegex(ImportError, f"needs a processor of x86-64-v2, but .* lacks {', '.join(missing)} "):
+                        self.loaded("")
+                else:
+                    self.loaded("")
+            for text in ("", "Features\t: fp asimd\n"):  # of another kind of processor: the loader says so
+                told.write_text(text)
+                self.loaded("")
+            told.unlink()
+            self.loaded("")
+
     def test_an_empty_name_is_not_set(self):
         self.assertEqual(self.loaded("")._name, self.loaded(_library.library._name)._name)
 
