@@ -1,11 +1,13 @@
-"""Runs the tests in this folder, and prints at the end how many passed."""
+"""Runs the tests in this folder, and prints at the end how many passed. With `--installed`, they test the module that this Python
+has, and not the one of the checkout."""
 
 import sys
 import unittest
 from pathlib import Path
 
 HERE = Path(__file__).resolve().parent
-sys.path[:0] = [str(HERE), str(HERE.parent), str(HERE.parent.parent / "tools")]
+IS_INSTALLED = "--installed" in sys.argv
+sys.path[:0] = [str(HERE), *([] if IS_INSTALLED else [str(HERE.parent)]), str(HERE.parent.parent / "tools")]
 import running
 
 
@@ -24,7 +26,7 @@ class Counting(unittest.TextTestResult):
 
 
 def main(names):
-    patterns = [f"{name}.py" for name in names] or ["test_*.py"]
+    patterns = [f"{name}.py" for name in names if name != "--installed"] or ["test_*.py"]
     loader = unittest.TestLoader()
     tests = unittest.TestSuite(loader.discover(str(HERE), pattern) for pattern in patterns)
     result = unittest.TextTestRunner(sys.stdout, verbosity=0, resultclass=Counting).run(tests)

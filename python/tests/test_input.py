@@ -85,16 +85,18 @@ import resource
 import numpy as np
 import sandpile
 
+LIMITS = resource.getrlimit(resource.RLIMIT_AS)
+
 def fault(mebibytes, call, **arguments):
     with open("/proc/self/statm") as file:
         used = int(file.read().split()[0]) * resource.getpagesize()
-    resource.setrlimit(resource.RLIMIT_AS, (used + (mebibytes << 20), -1))
+    resource.setrlimit(resource.RLIMIT_AS, (used + (mebibytes << 20), LIMITS[1]))
     try:
         call(**arguments)
     except MemoryError as error:
         print(getattr(error, "number", error))
     finally:
-        resource.setrlimit(resource.RLIMIT_AS, (-1, -1))
+        resource.setrlimit(resource.RLIMIT_AS, LIMITS)
 
 run, zero = sandpile.Drive([[0, 0]]), np.uint8(0)
 fault(256, sandpile.settle, pile=np.broadcast_to(zero, (10**4, 64, 64)))

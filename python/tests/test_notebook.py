@@ -2,6 +2,7 @@
 
 import json
 import os
+import re
 import sys
 import unittest
 
@@ -66,8 +67,20 @@ class Notebook(unittest.TestCase):
         self.assertEqual(list(shown.values()), [[], *5 * [picture], player])
         self.assertEqual(progress[-1:], picture)
         said = "".join(text for _, text in progress)
-        self.assertIn("50", said)
+        is_widget = any("application/vnd.jupyter.widget-view+json" in kinds for kinds, _ in progress)  # if there is ipywidgets
+        self.assertTrue(is_widget or "50" in said, progress)
         self.assertNotIn("Warning", said)
+
+
+    @needs_module("venv", "ipykernel")
+    def test_the_page_gives_the_environment_its_own_kernel(self):
+        line = re.search(r"^env/bin/python -m ipykernel [^#\n]*", (TOP / "docs" / "PYTHON.md").read_text(), re.M)
+        self.assertTrue(line, "Debian's kernel is /usr/bin/python3, which does not look into the environment")
+        folder = new_folder(self)
+        ran(sys.executable, "-m", "venv", "--system-site-packages", "--without-pip", folder / "env")
+        ran(*line[0].split(), cwd=folder, env={**ENV, "HOME": str(folder)})
+        kernel = json.loads((folder / "env/share/jupyter/kernels/python3/kernel.json").read_text())
+        self.assertEqual(kernel["argv"][0], str(folder / "env/bin/python"))
 
 
 @needs_module("jupyter_client", "ipykernel")

@@ -6,6 +6,7 @@ import io
 import itertools
 import multiprocessing
 import os
+import pickle
 import signal
 import subprocess
 import sys
@@ -215,13 +216,16 @@ class Processes(unittest.TestCase):
     @needs("mpiexec")
     @needs_module("mpi4py")
     def test_by_mpi(self):
-        as_root = dict.fromkeys(["OMPI_ALLOW_RUN_AS_ROOT", "OMPI_ALLOW_RUN_AS_ROOT_CONFIRM"], "1")
-        env = {**os.environ, **as_root, "OMPI_MCA_rmaps_base_oversubscribe": "1", "PYTHONPATH": MODULE}
+        as_root = [f"{name}_ALLOW_RUN_AS_ROOT{end}" for name in ("OMPI", "PRTE") for end in ("", "_CONFIRM")]
+        oversubscribed = {"OMPI_MCA_rmaps_base_oversubscribe": "1", "PRTE_MCA_rmaps_default_mapping_policy": ":oversubscribe"}
+        env = {**os.environ, **dict.fromkeys(as_root, "1"), **oversubscribed, "PYTHONPATH": MODULE}
         path = new_folder(self) / "mpi.py"
         path.write_text(BY_MPI)
         for processes in (1, 3):  # with one, the pool starts another
-            text = ran("mpiexec", "-n", processes, sys.executable, "-m", "mpi4py.futures", path, env=env, timeout=300)
-            self.assertEqual(text, "4 tables, as in threads\n")
+            # Open MPI tells standard error of the machine's network, by its version.
+            words = ["mpiexec", "-n", str(processes), sys.executable, "-m", "mpi4py.futures", path]
+            ended = subprocess.run(words, env=env, timeout=300, capture_output=True, text=True)
+            self.assertEqual((ended.stdout, ended.returncode), ("4 tables, as in threads\n", 0), ended.stderr)
 
 
 class Wrong(unittest.TestCase):
@@ -268,8 +272,9 @@ class Wrong(unittest.TestCase):
                     next(tables)
                 self.assertEqual(caught.exception.__cause__.number, 24)
                 self.assertRaises(StopIteration, next, tables)
-            with self.assertRaisesRegex(RuntimeError, "^the replica of stream 0 failed: .*[Pp]ickle"):
+            with self.assertRaisesRegex(RuntimeError, "^the replica of stream 0 failed: ") as caught:
                 next(sandpile.replicas(lambda _: [[0]], 1, [0], 5, processes))
+            self.assertIsInstance(caught.exception.__cause__, (AttributeError, pickle.PicklingError))  # by the version of Python
             self.assertEqual(len(next(sandpile.replicas(full, 1, [0], 5, processes))), 5)
 
     def test_too_many_drops_for_memory(self):
