@@ -4,23 +4,23 @@ from __future__ import annotations
 
 import re
 from collections.abc import Iterator
+from pathlib import Path
 
 import program_help
-from paths import PROGRAM
 
 # What help says of a command or an option, by name.
 Table = dict[str, str]
 
 
-def options(command: str) -> Iterator[tuple[str, bool, str]]:
+def options(program: Path, command: str) -> Iterator[tuple[str, bool, str]]:
     """The options of a command: name, whether a value follows, and what it does."""
-    for spelled, meaning in program_help.options_of(PROGRAM, command).items():
+    for spelled, meaning in program_help.options_of(program, command).items():
         name, _, value = spelled.partition("--")[2].partition(" ")
         yield name, bool(value), meaning
 
 
-def for_bash(table: Table) -> str:
-    cases = "\n".join(f"        {name}) words='{' '.join(f'--{option}' for option, _, _ in options(name))}' ;;" for name in table)
+def for_bash(program: Path, table: Table) -> str:
+    cases = "\n".join(f"        {name}) words='{' '.join(f'--{option}' for option, _, _ in options(program, name))}' ;;" for name in table)
     return f"""# Completion of sandpile for bash.
 _sandpile() {{
     local words
@@ -40,11 +40,11 @@ def quoted(text: str) -> str:
     return "'" + re.sub(r"[\[\]']", "", plain.replace(":", ",")) + "'"
 
 
-def for_zsh(table: Table) -> str:
+def for_zsh(program: Path, table: Table) -> str:
     names = "\n".join(f"        {quoted(name)[:-1]}:{quoted(text)[1:]}" for name, text in table.items())
     cases = "\n".join(
         f"        {name}) _arguments "
-        + " ".join(f"'--{option}[{quoted(text)[1:-1]}]{':value: ' if value else ''}'" for option, value, text in options(name))
+        + " ".join(f"'--{option}[{quoted(text)[1:-1]}]{':value: ' if value else ''}'" for option, value, text in options(program, name))
         + " ;;"
         for name in table
     )
@@ -70,12 +70,12 @@ _sandpile "$@"
 """
 
 
-def for_fish(table: Table) -> str:
+def for_fish(program: Path, table: Table) -> str:
     lines = ["# Completion of sandpile for fish.", "complete -c sandpile -f"]
     lines.append("complete -c sandpile -n __fish_use_subcommand -l version -d 'Print version'")
     for name, text in table.items():
         lines.append(f"complete -c sandpile -n __fish_use_subcommand -a {name} -d {quoted(text)}")
-        for option, value, meaning in options(name):
+        for option, value, meaning in options(program, name):
             takes = " -x" if value else ""
             lines.append(f"complete -c sandpile -n '__fish_seen_subcommand_from {name}' -l {option}{takes} -d {quoted(meaning)}")
     return "\n".join(lines) + "\n"

@@ -11,7 +11,7 @@ import unittest
 from pathlib import Path
 
 import sandpile
-from tools import LIBRARY, PROGRAM, TOP, files_in, needs, needs_module, new_folder, ran, stand_in
+from tools import LIBRARY, PROGRAM, TOP, files_in, needs, needs_module, new_folder, ran, release_in, stand_in
 
 PATHS = ("PATH", "PYTHONPATH", "PKG_CONFIG_PATH", "LD_LIBRARY_PATH")
 
@@ -28,6 +28,7 @@ def copied(folder):
     """Copies what pip needs of the checkout but for what is built."""
     for name in ("tools", "include", "python"):
         shutil.copytree(TOP / name, folder / name, ignore=shutil.ignore_patterns("build", "*.egg-info", "__pycache__"))
+    shutil.copy2(TOP / "crates.txt", folder)
 
 
 class ByPip(unittest.TestCase):
@@ -67,7 +68,7 @@ class ByInstall(unittest.TestCase):
         self.top, self.log, self.prefix = self.folder / "a checkout", self.folder / "log", self.folder / "prefix"
         for name in ("tools", "include", "python"):
             shutil.copytree(TOP / name, self.top / name, ignore=shutil.ignore_patterns("tests", "__pycache__", "build", "*.egg-info"))
-        for path in (TOP / "install", PROGRAM, *SHARED_AND_STATIC):
+        for path in (TOP / "install", TOP / "crates.txt", PROGRAM, *SHARED_AND_STATIC):
             copy = self.top / path.relative_to(TOP)
             copy.parent.mkdir(parents=True, exist_ok=True)
             shutil.copy2(path, copy)
@@ -131,6 +132,18 @@ class ByInstall(unittest.TestCase):
         for _ in range(2):
             self.installed(self.prefix)
         self.assertEqual(self.noted(), ["build --if-changed", "build --if-changed library"] * 2)
+
+    def test_the_released_wheel_is_installed_where_nothing_is_built(self):
+        release_in(self.top)
+        self.installed(self.prefix)
+        self.assertEqual(ran(self.prefix / "bin/sandpile", "identity", "--width=1", "--height=1"), "1 1\n0\n")
+        self.assertEqual((self.prefix / "lib/libsandpile.so.1").read_bytes(), SHARED_AND_STATIC[0].read_bytes())
+        self.assertFalse((self.prefix / "lib/libsandpile.a").exists())
+        wheel, = (self.top / "dist").iterdir()
+        wheel.write_bytes(wheel.read_bytes() + b" ")
+        with self.assertRaises(AssertionError) as caught:
+            self.installed(self.prefix)
+        self.assertIn("has another checksum than in release/SHA256SUMS", str(caught.exception))
 
     def test_a_build_that_fails_installs_nothing(self):
         stand_in(self.top / "build", "exit 3")

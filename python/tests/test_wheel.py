@@ -19,7 +19,7 @@ from pathlib import Path
 import sandpile
 from paths import STATIC
 from sandpile import _library
-from tools import LIBRARY, PROGRAM, TOP, files_in, needs, needs_module, new_folder, ran
+from tools import LIBRARY, PROGRAM, TOP, files_in, needs, needs_module, new_folder, ran, release_in
 
 SHARED = LIBRARY / "libsandpile.so.1"
 NAME = f"sandpile-{sandpile.__version__}"
@@ -283,16 +283,7 @@ class Installed(unittest.TestCase):
 
     def test_from_a_checkout_with_the_released_wheel(self):
         top, python = new_checkout(new_folder(self)), self.environment(new_folder(self))
-        (top / "dist").mkdir()
-        wheel = Path(shutil.move(wheel_of(top), top / "dist"))
-        code = "import sys; sys.path.insert(0, sys.argv[1]); import products as p; print(end=p.sources(sys.argv[2]))"
-        sums = [f"{hashlib.sha256(wheel.read_bytes()).hexdigest()}  dist/{wheel.name}\n"]
-        for crate in ("sandpile", "sand_c"):
-            shutil.rmtree(top / "crates" / crate)
-            sources = ran(sys.executable, "-c", code, top / "tools", crate)
-            sums.append(f"{hashlib.sha256(sources.encode()).hexdigest()}  crates/{crate}/out/made-from\n")
-        (top / "release").mkdir()
-        (top / "release" / "SHA256SUMS").write_text("".join(sums))
+        release_in(top)
         self.pip(python, "install", top / "python")
         self.assertRegex(self.tried(python), rf"^1 \[\[3\]\] {python.parents[1]}/lib.*/libsandpile.so.1$")
         self.assertEqual(self.ran_there(python.with_name("sandpile"), "identity", "--width=1", "--height=1"), "1 1\n0\n")

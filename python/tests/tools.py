@@ -1,9 +1,11 @@
 """Shared by several tests: random piles, the program, and tools that may be missing."""
 
+import hashlib
 import importlib.util
 import os
 import shutil
 import subprocess
+import sys
 import tempfile
 import unittest
 from pathlib import Path
@@ -69,6 +71,20 @@ def stand_in(path, *lines):
     path.parent.mkdir(parents=True, exist_ok=True)
     path.write_text("\n".join(["#!/bin/bash", *lines, ""]))
     path.chmod(0o755)
+
+
+def release_in(top):
+    """Puts the wheel of what is built in a checkout into its dist/, its checksums into release/, and removes what is built."""
+    (top / "dist").mkdir()
+    wheel = top / "dist" / ran(sys.executable, top / "tools" / "wheel", top / "dist").rstrip("\n")
+    code = "import sys; sys.path.insert(0, sys.argv[1]); import products; print(end=products.sources(sys.argv[2]))"
+    sums = {f"dist/{wheel.name}": wheel.read_bytes()}
+    for crate in ("sandpile", "sand_c"):
+        shutil.rmtree(top / "crates" / crate / "out")
+        sums[f"crates/{crate}/out/made-from"] = ran(sys.executable, "-c", code, top / "tools", crate).encode()
+    (top / "release").mkdir()
+    lines = (f"{hashlib.sha256(content).hexdigest()}  {name}\n" for name, content in sums.items())
+    (top / "release" / "SHA256SUMS").write_text("".join(lines))
 
 
 def files_in(folder):
