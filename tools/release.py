@@ -132,7 +132,7 @@ def run(words: list[str]) -> NoReturn:
     handle = os.memfd_create("sandpile")
     with open(handle, "wb", closefd=False) as memory:
         memory.write(content(wheel, PROGRAM))
-    os.execv(f"/proc/self/fd/{handle}", ["sandpile", *words])
+    os.execve(handle, ["sandpile", *words], os.environ)
 
 
 if __name__ == "__main__":
