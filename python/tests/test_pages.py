@@ -12,7 +12,7 @@ import time
 import unittest
 from unittest import mock
 
-from tools import TOP, needs_module, new_folder
+from tools import TOP, needs, needs_module, new_folder
 
 PAGE = """
 ```python
@@ -118,6 +118,38 @@ class Versions(unittest.TestCase):
         self.assertEqual(told, {"numpy": "1.21", "matplotlib": "3.4"})  # with `numpy.typing`, and `Colormap.with_extremes`
         page = (TOP / "docs" / "PYTHON.md").read_text()
         self.assertTrue(f"NumPy {told['numpy']}" in page and f"matplotlib {told['matplotlib']}" in page)
+
+
+class OtherDebian(unittest.TestCase):
+    def said(self, tried, status=0):
+        with contextlib.redirect_stdout(io.StringIO()) as said:
+            self.assertEqual(tried.main([]), status)
+        return said.getvalue()
+
+    def test_what_cannot_be_made_is_left_out(self):
+        tried = script("other-debian")
+        with mock.patch.object(os, "geteuid", lambda: 1):
+            self.assertEqual(self.said(tried), "other-debian: left out: only root can make another release\n")
+        with mock.patch.object(os, "geteuid", lambda: 0), mock.patch.object(tried, "ENVIRONMENT", {"PATH": "/nowhere"}):
+            self.assertEqual(self.said(tried), "other-debian: left out: there is no debootstrap\n")
+
+    @needs("debootstrap", "unshare", "apt-get")
+    @unittest.skipIf(os.geteuid(), "only root can make another release")
+    def test_a_mirror_that_is_not_there(self):
+        tried = script("other-debian")
+        with mock.patch.object(tried, "mirror", lambda: "file:///nowhere"):
+            self.assertRegex(self.said(tried), "^other-debian: left out: trixie cannot be made: .*\n$")
+
+    def test_what_fails_there_fails_here(self):
+        tried = script("other-debian")
+        parts = [["sh", "-c", "echo 'a: 3 passed, 1 failed, 2 left out'; exit 1"], ["sh", "-c", "exit 3"], ["echo", "b: 5 passed, 0 failed"]]
+        with contextlib.ExitStack() as stack:
+            for name, stand_in in {"make_release": mock.Mock(), "copy_checkout": mock.Mock(), "PARTS": parts}.items():
+                stack.enter_context(mock.patch.object(tried, name, stand_in))
+            stack.enter_context(mock.patch.object(tried, "inside", lambda _, *words: list(words)))
+            lines = self.said(tried, 1).splitlines()
+        self.assertEqual(lines[-1], "on trixie: 8 passed, 2 failed, 2 left out")
+        self.assertIn("other-debian: `sh` ended with status 3", lines)
 
 
 @needs_module("pytest")

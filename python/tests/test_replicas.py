@@ -218,7 +218,8 @@ class Processes(unittest.TestCase):
     def test_by_mpi(self):
         as_root = [f"{name}_ALLOW_RUN_AS_ROOT{end}" for name in ("OMPI", "PRTE") for end in ("", "_CONFIRM")]
         oversubscribed = {"OMPI_MCA_rmaps_base_oversubscribe": "1", "PRTE_MCA_rmaps_default_mapping_policy": ":oversubscribe"}
-        env = {**os.environ, **dict.fromkeys(as_root, "1"), **oversubscribed, "PYTHONPATH": MODULE}
+        here = {**dict.fromkeys(as_root, "1"), **oversubscribed, "OMPI_MCA_btl_tcp_if_include": "lo"}
+        env = {**os.environ, **here, "PYTHONPATH": MODULE}
         path = new_folder(self) / "mpi.py"
         path.write_text(BY_MPI)
         for processes in (1, 3):  # with one, the pool starts another
