@@ -1,8 +1,11 @@
 //! Readers and writers that stop early, fail, or move few bytes per call.
 
+use sand_advice::{Cleared, Progress};
 use sand_text::{INPUT_LIMIT, StreamFault, read_all, write_text};
+use std::alloc::Global;
 use std::io;
 use std::io::{Read, Write};
+use std::rt::Clock;
 use std::test::Fail;
 
 /// Gives `left` bytes, at most `step` per call; fails in call `fails_at`. Counts its calls.
@@ -120,6 +123,36 @@ fn a_text_is_written_up_to_where_the_writer_stops(rt: HostRuntime) -> Result<(),
         );
         let (front, _) = text.split_at(room.min(text.len()));
         assert_eq!(rt; writer.taken.as_slice(), front, "at {step} {room}");
+    }
+    Ok(())
+}
+
+// Writes a text by the writer of a terminal to one that takes one byte per call up to `room`, and then fails.
+fn written_at_a_terminal<R: Eprint + Clock>(
+    _: &R,
+    alloc: Global,
+    text: &[u8],
+    room: usize,
+) -> Result<(), StreamFault> {
+    let taker = Taker {
+        taken: Vec::new(alloc),
+        calls: 0,
+        step: 1,
+        room,
+        fails: true,
+        flushes: true,
+    };
+    write_text(&mut Cleared::new(taker, None::<&Progress<R>>), text)
+}
+
+// The writer of a terminal does not take a part of a text for all of it.
+#[test]
+fn a_text_at_a_terminal_is_written_up_to_where_the_writer_stops(
+    rt: HostRuntime,
+) -> Result<(), Fail> {
+    for (room, expected) in [(10, Ok(())), (4, Err(StreamFault::Write(4)))] {
+        let written = written_at_a_terminal(&rt, rt.alloc(), b"3 1\n0 4 0\n", room);
+        assert_eq!(rt; written, expected, "at {room}");
     }
     Ok(())
 }

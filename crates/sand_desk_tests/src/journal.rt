@@ -40,7 +40,6 @@ pub fn journal_of(alloc: Global, epochs: &[&[Entry]]) -> Result<Vec<u8>, AllocEr
     Ok(text)
 }
 
-#[cfg(test)]
 fn drop_by(dropper: u32, site: usize) -> Entry {
     Entry { site, dropper }
 }

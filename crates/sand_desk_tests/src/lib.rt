@@ -17,7 +17,8 @@ mod flow;
 mod gates;
 #[cfg(test)]
 mod help;
-pub mod journal;
+#[cfg(test)]
+mod journal;
 #[cfg(test)]
 mod pictures;
 #[cfg(test)]
@@ -26,7 +27,8 @@ mod piles;
 mod readings;
 #[cfg(test)]
 mod runs;
-pub mod stopping;
+#[cfg(test)]
+mod stopping;
 #[cfg(test)]
 mod streams;
 #[cfg(test)]

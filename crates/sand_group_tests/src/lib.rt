@@ -17,4 +17,5 @@ mod operations;
 mod piles;
 #[cfg(test)]
 mod settling;
-pub mod shapes;
+#[cfg(test)]
+mod shapes;

@@ -1,13 +1,10 @@
 //! Shapes, and the neighbours of their sites.
 
-use sand_model::Shape;
-#[cfg(test)]
-use sand_model::{Edge, ShapeFault};
-#[cfg(test)]
+use sand_model::{Edge, Shape, ShapeFault};
 use std::test::Fail;
 
-/// The neighbours of a site, and the number that are missing, if the site is in the grid.
-pub fn around(shape: Shape, site: usize) -> Option<([Option<usize>; 4], u8)> {
+// The neighbours of a site, and the number that are missing, if the site is in the grid.
+fn around(shape: Shape, site: usize) -> Option<([Option<usize>; 4], u8)> {
     if site < shape.sites() {
         Some((shape.neighbours(site), shape.missing(site)))
     } else {

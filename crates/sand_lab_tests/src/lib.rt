@@ -15,7 +15,8 @@ mod dropping;
 mod gates;
 #[cfg(test)]
 mod gathering;
-pub mod holding;
+#[cfg(test)]
+mod holding;
 #[cfg(test)]
 mod plan;
 #[cfg(test)]

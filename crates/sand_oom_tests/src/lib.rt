@@ -17,7 +17,8 @@
 mod commands;
 #[cfg(test)]
 mod group;
-pub mod memory;
+#[cfg(test)]
+mod memory;
 #[cfg(test)]
 mod passes;
 #[cfg(test)]
