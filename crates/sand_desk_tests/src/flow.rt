@@ -1,11 +1,11 @@
 //! Readers and writers that stop early, fail, or move few bytes per call.
 
-use sand_advice::{Cleared, Progress};
+use sand_advice::{Cleared, progress_of};
 use sand_text::{INPUT_LIMIT, StreamFault, read_all, write_text};
 use std::alloc::Global;
 use std::io;
 use std::io::{Read, Write};
-use std::rt::Clock;
+use std::rt::{Clock, Env};
 use std::test::Fail;
 
 /// Gives `left` bytes, at most `step` per call; fails in call `fails_at`. Counts its calls.
@@ -127,13 +127,15 @@ fn a_text_is_written_up_to_where_the_writer_stops(rt: HostRuntime) -> Result<(),
     Ok(())
 }
 
-// Writes a text by the writer of a terminal to one that takes one byte per call up to `room`, and then fails.
-fn written_at_a_terminal<R: Eprint + Clock>(
-    _: &R,
+// Writes a text by the writer of a terminal to one that takes one byte per call up to `room`, and then fails. No line
+// shows the progress, as nothing takes long.
+fn written_at_a_terminal<R: Eprint + Clock + Env>(
+    rt: &R,
     alloc: Global,
     text: &[u8],
     room: usize,
 ) -> Result<(), StreamFault> {
+    let progress = progress_of(rt, alloc, &[]);
     let taker = Taker {
         taken: Vec::new(alloc),
         calls: 0,
@@ -142,7 +144,7 @@ fn written_at_a_terminal<R: Eprint + Clock>(
         fails: true,
         flushes: true,
     };
-    write_text(&mut Cleared::new(taker, None::<&Progress<R>>), text)
+    write_text(&mut Cleared::new(taker, progress.as_ref()), text)
 }
 
 // The writer of a terminal does not take a part of a text for all of it.
