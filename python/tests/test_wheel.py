@@ -111,8 +111,8 @@ class Packed(unittest.TestCase):
         self.assertEqual((about["Wheel-Version"], about["Root-Is-Purelib"]), ("1.0", "false"))
         needs = [need.partition("; ")[::2] for need in metadata.get_all("Requires-Dist")]
         extras = [(need, extra.split("'")[1]) for need, extra in needs if extra]
-        self.assertEqual([need for need, extra in needs if not extra], ["numpy"])
-        self.assertEqual(extras, [("tqdm", "progress"), ("matplotlib", "show")])
+        self.assertEqual([need for need, extra in needs if not extra], ["numpy>=1.21"])
+        self.assertEqual(extras, [("tqdm", "progress"), ("matplotlib>=3.4", "show")])
         self.assertEqual(metadata.get_all("Provides-Extra"), [extra for _, extra in extras])
 
     @needs("objdump")
