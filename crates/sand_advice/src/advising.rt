@@ -2,11 +2,11 @@
 //!
 //! It examines the bytes of the input again. No promise of a command depends on any of this.
 
-use crate::faults::{Explained, fault_numbered};
 use crate::outline::Numbers;
 use crate::pushing::{push_byte, push_grouped, push_place};
 use crate::refused::Refused;
 use crate::{piles, strange};
+use sand_cli::{Explained, fault_numbered};
 use sand_model::GRAIN_LIMIT;
 use std::alloc::{AllocError, Global};
 

@@ -4,3 +4,4 @@ pub mod Asked
 pub mod Fault
 pub mod Spelling
 pub mod Names
+pub mod Requests

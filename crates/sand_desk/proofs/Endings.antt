@@ -1,21 +1,18 @@
 -- How a command ends, given how its reading, its work or its writing ended.
 use Rattle.std.proofs.lemmas.Grind.{common_steps}
-use Rattle.std.proofs.Common.{◌≡◌, ◌+◌, ◌≤◌, ℕ, Bool, List, true, false, length, take, refl, sym, ap, subst, ◌∙◌, arith, true≢false, inl, inr, ⊎_elim}
+use Rattle.std.proofs.Common.{◌≡◌, ◌+◌, ◌≤◌, ℕ, Bool, List, true, false, length, sym, ap, ◌∙◌, arith}
 use Rattle.std.proofs.Math.Seq.{drop-length}
 use Rattle.std.specs.Prelude.{Option, Some, None}
-use Rattle.std.specs.Io.KnownBytes.{Appends, Keeps}
+use Rattle.std.specs.Io.KnownBytes.{Keeps}
 use Rattle.sand_text.specs.declared.fault.StreamFault.{StreamFault}
 use Rattle.sand_text.specs.declared.fault.StreamFault.TheVariants as stream
 use Rattle.sand_text.specs.Flow.{GivesAll, IsFurther, IsFurtherByAtMost, IsOfReading, most_bytes}
 use Rattle.clap.specs.Words.{Text}
 use Rattle.sand_cli.specs.declared.task.Task.{Task}
-use Rattle.sand_desk.specs.declared.faults.DeskFault.{DeskFault}
-use Rattle.sand_desk.specs.declared.faults.DeskFault.TheVariants as desk
-use Rattle.sand_desk.specs.Faults.{of_stream}
-use Rattle.sand_desk.specs.Commands.{Call, reads_input, asks_for_input, IsTextOf, IsFaultOf, Finds, Takes, IsRead, IsFaulty, IsStarved, IsBrokenOff, IsRefused, WorkEnds, EndsBy, HelpsIfAsked, TellsWords}
-
-pub keeps : (held : Option (List ℕ)) → Keeps held held
-keeps held = grind (arith, common_steps)
+use Rattle.sand_commands.specs.declared.faults.DeskFault.{DeskFault}
+use Rattle.sand_commands.specs.Faults.{of_stream}
+use Rattle.sand_commands.specs.Commands.{Finds, IsBrokenOff, Takes, WorkEnds, reads_input}
+use Rattle.sand_desk.specs.Commands.{Call, asks_for_input, IsTextOf, IsFaultOf, IsRead, IsFaulty, IsStarved, EndsBy, HelpsIfAsked, TellsWords}
 
 -- the reader gave nothing
 none_given : (left left' : Option (List ℕ)) → Keeps left left' → IsFurtherByAtMost left left' most_bytes
@@ -92,19 +89,6 @@ pub work_ends : (call : Call) (task : Task) (input : List ℕ) (fault : DeskFaul
     → WorkEnds (IsTextOf task input) (IsFaultOf task input) call.held call.held_after fault
     → EndsBy call fault
 work_ends call task input fault read ends = grind (arith, common_steps, cut_short, refused)
-
--- a fault of the work was found before anything was written
-pub found_first : (IsText : List ℕ → Type 0) (IsFault : DeskFault → Type 0) (held : Option (List ℕ)) (fault : DeskFault)
-    → Finds IsFault fault → WorkEnds IsText IsFault held held fault
-found_first IsText IsFault held fault found = inr (record { found = found; unwritten = keeps held })
-
--- the writer failed within a whole text
-pub text_broke : (IsText : List ℕ → Type 0) (IsFault : DeskFault → Type 0)
-    (held held' : Option (List ℕ)) (text : List ℕ) (f : StreamFault)
-    → IsText text
-    → ((sent : ℕ) × (f ≡ stream.Write sent) × (sent ≤ length text) × Appends held held' (take sent text))
-    → WorkEnds IsText IsFault held held' (of_stream f)
-text_broke IsText IsFault held held' text f answer cut = grind (arith, common_steps)
 
 -- a fault of the work is not a fault of the words
 found_no_help : (words : List Text) (IsFault : DeskFault → Type 0) (fault : DeskFault) → Finds IsFault fault

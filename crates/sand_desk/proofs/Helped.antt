@@ -1,15 +1,14 @@
 -- A command whose words ask for help: nothing was read or written before the help is shown.
 use Rattle.std.proofs.lemmas.Grind.{common_steps}
-use Rattle.std.proofs.Common.{◌≡◌, ◌≢◌, ◌++◌, ◌∙◌, ℕ, List, ap, arith, inl, inr, ⊎_elim}
+use Rattle.std.proofs.Common.{◌≡◌, ℕ, List, arith}
 use Rattle.std.proofs.KnownBytes.{Keeps-trans}
-use Rattle.std.specs.Prelude.{Option, Some, None}
+use Rattle.std.specs.Prelude.{Option, None}
 use Rattle.std.specs.Io.KnownBytes.{Appends, Keeps}
 use Rattle.sand_desk.specs.Commands.{Call, EndsBy, HelpsIfAsked, IsMisuse, TellsWords, call_of}
-use Rattle.sand_desk.specs.Faults.{status_of}
-use Rattle.sand_desk.specs.Helping.{IsShownInPart, IsUnhelped, IsUnperformed, IsUnshown}
-use Rattle.sand_desk.specs.declared.faults.DeskFault.{DeskFault}
-use Rattle.sand_desk.specs.declared.faults.DeskFault.TheVariants as desk
-use Rattle.sand_desk.specs.declared.faults.DeskFault.TheVariants.{Memory}
+use Rattle.sand_commands.specs.Faults.{status_of}
+use Rattle.sand_commands.specs.Help.{IsUnhelped, IsUnshown}
+use Rattle.sand_desk.specs.Helping.{IsUnperformed}
+use Rattle.sand_commands.specs.declared.faults.DeskFault.{DeskFault}
 
 no_help : {A : Type 0} → (◌≡◌ {A = ℕ} 1 0) → A
 no_help e = absurd (omega (arith, e))

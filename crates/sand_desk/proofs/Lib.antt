@@ -1,14 +1,6 @@
 pub mod Endings
 pub mod Helped
-pub mod Rows
-pub mod DropsExist
-pub mod DrawnSites
-pub mod Streaming
-pub mod DrawnText
-pub mod DropSites
-pub mod Drawing
-pub mod Unfit
 pub mod OneText
 pub mod OneDropper
-pub mod OneNumber
-pub mod RunsInParts
+pub mod OwnTexts
+pub mod WithoutLab

@@ -1,6 +1,6 @@
 -- The drops of a draw and those of one dropper are the same at each site, so they leave the same settled record.
 use Rattle.std.proofs.lemmas.Grind.{common_steps}
-use Rattle.std.proofs.Common.{◌≡◌, ◌+◌, ℕ, List, [], ◌∷◌, drop, length, refl, sym, ap, ◌∙◌, subst, arith}
+use Rattle.std.proofs.Common.{◌≡◌, ◌+◌, ℕ, List, [], ◌∷◌, length, sym, ap, ◌∙◌, subst, arith}
 use Rattle.std.specs.Prelude.{Result, Ok, Err}
 use Rattle.sand_model.specs.Grid.{sites}
 use Rattle.sand_model.specs.Piles.{PileView}
@@ -20,7 +20,7 @@ use Rattle.sand_text.specs.Texts.{text_of}
 use Rattle.sand_cli.specs.declared.task.Draw.{Draw}
 use Rattle.sand_cli.specs.declared.task.Part.TheVariants as parts
 use Rattle.sand_desk.specs.Drawing.{DropsTheDraw, LeavesTheSame, WritesTheSamePile}
-use Rattle.sand_desk.specs.DropsCommand.{drawn_sites, with_draw}
+use Rattle.sand_commands.specs.DropsCommand.{drawn_sites, with_draw}
 
 abbrev drawn_on : Draw → PileView → List ℕ
 drawn_on draw start = drawn_sites (sites start.grid) draw

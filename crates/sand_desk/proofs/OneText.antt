@@ -1,6 +1,6 @@
 -- Two runs that ask for the same thing write the same text.
 use Rattle.std.proofs.lemmas.Grind.{common_steps}
-use Rattle.std.proofs.Common.{arith, ◌≡◌, ℕ, false, List, [], ◌++◌, map, sum, sym, ap, ap₂, ◌∙◌, subst}
+use Rattle.std.proofs.Common.{arith, ◌≡◌, ℕ, false, List, [], ◌++◌, map, sum, sym, ap, ap₂, ◌∙◌}
 use Rattle.std.specs.Prelude.{Result, Ok, Err}
 use Rattle.std.proofs.lemmas.Simd.{map-map}
 use Rattle.sand_model.specs.Piles.{PileView}
@@ -13,8 +13,8 @@ use Rattle.sand_text.specs.Texts.{text_of}
 use Rattle.sand_cli.specs.declared.task.Form.{Form}
 use Rattle.sand_cli.specs.declared.task.Form.TheVariants.{Graymap, Pile, Text}
 use Rattle.sand_lab.specs.Laws.{AreAlike, OneOutcome, one_of}
-use Rattle.sand_lab.specs.Reports.{ReportView, IsReport}
-use Rattle.sand_desk.specs.Laboratory.{sums_of, lab_text_of_report, report_text_of, OneLabText}
+use Rattle.sand_lab.specs.Reports.{ReportView}
+use Rattle.sand_desk.specs.Laboratory.{lab_text_of_report, report_text_of, OneLabText}
 
 sums_of_one : OneView → Sums
 sums_of_one o = record {

@@ -1,11 +1,5 @@
-pub mod Answers
+pub mod Answering
 pub mod Commands
 pub mod Drawing
-pub mod DropsCommand
-pub mod Faults
-pub mod GroupCommands
 pub mod Helping
 pub mod Laboratory
-pub mod SettleCommand
-pub mod Streaming
-pub mod Version

@@ -5,15 +5,11 @@
 //!
 //! **One dropper.** A run of one epoch with one dropper puts as many drops on each site as `drops --count` with the
 //! same seed, since both read stream 0. These numbers alone determine the result of one thread.
-//!
-//! **Runs in parts.** A drop depends only on its site and on the pile before it. So `drops --count M --from N`, on the
-//! pile that `drops --count N` left, makes the last M drops of a single run of N + M, with the same numbers and
-//! avalanches.
 
-ghost use Rattle.sand_desk.specs.Drawing.{LeavesTheSame, RunsInParts, WritesTheSamePile};
-ghost use Rattle.sand_desk.specs.Faults.{KeepNumbers};
+ghost use Rattle.sand_desk.specs.Drawing.{LeavesTheSame, WritesTheSamePile};
 ghost use Rattle.sand_desk.specs.Laboratory.{OneLabText};
 
+pub use sand_commands::laws::{one_number, runs_in_parts};
 use sand_lab::laws::one_outcome;
 
 /// Without its journal, the text of `lab` does not depend on how many threads sweep and watch, or on how the drops
@@ -29,14 +25,4 @@ pub fn one_lab_text()
 pub fn drops_of_one_dropper()
     ensures record { LeavesTheSame }
     ensures pile { WritesTheSamePile }
-{}
-
-/// A run, then one with `--from` on the resulting pile, have the rows and the final pile of a single run.
-pub fn runs_in_parts()
-    ensures { RunsInParts }
-{}
-
-/// A fault of a lower crate keeps its number when it becomes the program's.
-pub fn one_number()
-    ensures { KeepNumbers }
 {}

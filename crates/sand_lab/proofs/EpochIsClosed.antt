@@ -32,7 +32,8 @@ use Rattle.sand_lab.proofs.CrewHasWorked.{sums_up}
 use Rattle.sand_lab.proofs.EachNumberOnce.{journal_sites}
 use Rattle.sand_lab.proofs.JournalFollowsStreams.{follows_streams, length-parts}
 use Rattle.sand_lab.proofs.EachAtItsPlace.{all_map, each_map}
-use Rattle.sand_lab.proofs.OccurrencesInStreams.{length-stream_sites, parts_by_site}
+use Rattle.sand_streams.proofs.StreamLengths.{length-stream_sites}
+use Rattle.sand_lab.proofs.OccurrencesInStreams.{parts_by_site}
 
 all_flat : {A B : Type 0} (P : ℕ → A → Type 0) (Q : B → Type 0) (f : A → List B) (xs : List A)
     → EachAt P xs → ((i : ℕ) (x : A) → P i x → All Q (f x)) → All Q (flat_map f xs)

@@ -1,5 +1,5 @@
 -- Receipts in parts, one part for each stream, are for each site as many as the streams together have of it.
-use Rattle.std.proofs.Common.{ℕ, zero, suc, ◌≡◌, ◌≤◌, List, [], ◌∷◌, take, length, get_or, refl, sym, ap, ◌∙◌, arith, length-append}
+use Rattle.std.proofs.Common.{ℕ, zero, suc, ◌≡◌, ◌≤◌, List, [], take, length, get_or, refl, sym, ap, ◌∙◌, arith}
 use Rattle.std.proofs.lemmas.List.{flat_map_more, take_all}
 use Rattle.std.proofs.lemmas.Option.{slice_get-get_or}
 use Rattle.std.proofs.Math.Seq.{take-suc}
@@ -10,13 +10,6 @@ use Rattle.sand_shared.proofs.Receipts.{receipts_for-append}
 use Rattle.sand_shared.proofs.SumsOverPasses.{sum_by-map}
 use Rattle.sand_lab.specs.Crews.{EachAt}
 use Rattle.sand_lab.specs.Journals.{flattened, receipt_sites}
-use Rattle.sand_lab.specs.Streams.{site_at, stream_sites}
-
-pub length-stream_sites : (sites seed stream n : ℕ) → length (stream_sites sites seed stream n) ≡ n
-length-stream_sites sites seed stream zero = refl
-length-stream_sites sites seed stream (suc n) =
-    let rest = length-stream_sites sites seed stream n in
-    let one = length-append (stream_sites sites seed stream n) (site_at sites seed stream n ∷ []) in omega arith
 
 module _ (i : ℕ) (stream : ℕ → List ℕ) (parts : List (List Receipt))
     (each : EachAt (λ k part. receipt_sites part ≡ stream k) parts) where

@@ -8,11 +8,10 @@ ghost use Rattle.sand_lab.specs.Jobs.{CanDrop, CanSweep, CanTally, TookDropTurns
 ghost use Rattle.sand_plan.specs.declared.wish.Wish.{Wish};
 
 use crate::droppers::Dropper;
-use crate::gate::{Gate, Open};
 use crate::observers::{Observer, TALLIES};
 use crate::work::{Work, do_all};
 use crate::workers::Worker;
-use sand_plan::Wish;
+use sand_plan::{Gate, Open, Wish};
 use sand_shared::SharedPile;
 use std::thread::{Threads, join_mut};
 

@@ -9,8 +9,8 @@ ghost use Rattle.std.specs.Prelude.{◌≡◌, ℕ, ◌+◌, ◌<◌, [], length
 ghost use Rattle.std.specs.Int.{div_ceil};
 ghost use Rattle.sand_lab.specs.Jobs.{CanDrop, TookDropTurns, IsDropping};
 
-use crate::gate::{Gate, Role};
 use crate::work::Work;
+use sand_plan::{Gate, Role};
 use sand_shared::{Pass, SharedPile, SiteCounts};
 use sand_streams::SiteReader;
 

@@ -17,7 +17,6 @@ ghost use Rattle.sand_lab.specs.Reports.{IsEpoch};
 use crate::album::{Album, Picture};
 use crate::crew::Crew;
 use crate::faults::LabFault;
-use crate::gate::Gate;
 use crate::gathering::{Findings, Gathered};
 use crate::journal::Entry;
 use crate::overlap::{
@@ -26,7 +25,7 @@ use crate::overlap::{
 use crate::plan::quota_of;
 use crate::report::Sheet;
 use sand_model::Pile;
-use sand_plan::Wish;
+use sand_plan::{Gate, Wish};
 use sand_shared::{BarePass, Pass, Receipt, Record, SharedPile};
 use std::alloc::Global;
 use std::thread::Threads;

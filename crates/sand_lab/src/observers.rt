@@ -1,7 +1,7 @@
 //! Observers: each reads the tally repeatedly.
 
-use crate::gate::{Gate, Role};
 use crate::work::Work;
+use sand_plan::{Gate, Role};
 use sand_shared::{Pass, SharedPile};
 
 /// How often an observer reads the tally.

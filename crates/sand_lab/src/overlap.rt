@@ -14,10 +14,9 @@ ghost use Rattle.sand_lab.specs.Journals.{HavePlaces, IsJournal, flattened, list
 
 use crate::crew::Crew;
 use crate::faults::LabFault;
-use crate::gate::Gate;
 use crate::journal::{Entry, blank_journal, history_of, room_for_history, write_journal};
 use crate::plan::quota_of;
-use sand_plan::Wish;
+use sand_plan::{Gate, Wish};
 use sand_settle::Settled;
 use sand_shared::{BarePass, Receipt, SharedPile};
 use std::alloc::Global;

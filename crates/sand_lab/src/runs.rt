@@ -9,11 +9,10 @@ ghost use Rattle.sand_model.specs.Piles.{PileView, most_grains};
 use crate::album::Album;
 use crate::epochs::closed_epoch;
 use crate::faults::LabFault;
-use crate::gate::Gate;
 use crate::plan::{Plan, quota_of};
 use crate::report::Report;
 use sand_model::{GRAIN_LIMIT, Pile};
-use sand_plan::Wish;
+use sand_plan::{Gate, Wish};
 use std::alloc::Global;
 use std::thread::Threads;
 

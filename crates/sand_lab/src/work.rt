@@ -8,7 +8,7 @@ ghost use Rattle.std.specs.List.{AllZip};
 ghost use Rattle.std.specs.Thread.{IsSync, IsSend};
 ghost use Rattle.sand_shared.specs.Passes.{SharedView};
 
-use crate::gate::Gate;
+use sand_plan::Gate;
 use sand_shared::SharedPile;
 use std::thread::{Threads, join_mut};
 

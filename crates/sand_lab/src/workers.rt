@@ -1,7 +1,7 @@
 //! Workers: each sweeps a band of rows.
 
-use crate::gate::{Gate, Role};
 use crate::work::Work;
+use sand_plan::{Gate, Role};
 use sand_shared::{Pass, SharedPile};
 
 #[derive(Drop)]

@@ -1,7 +1,7 @@
 -- One step of writing the lines of a table.
 use Rattle.std.proofs.Common.{arith, ◌≡◌, ℕ, ◌+◌, ◌<◌, ◌≤◌, List, [], ◌++◌, length, drop, get_or, append_assoc}
 use Rattle.std.proofs.lemmas.List.{at_drop_all, at_drop_more}
-use Rattle.sand_settle.specs.Avalanches.{Avalanche}
+use Rattle.sand_fronts.specs.declared.avalanche.Avalanche.{Avalanche}
 use Rattle.sand_text.specs.Tables.{entry_text, entries_text}
 use Rattle.sand_text.proofs.Usual.{usual}
 

@@ -1,5 +1,4 @@
 pub mod Blocks
-pub mod Burning
 pub mod Bytes
 pub mod Faults
 pub mod Flow

@@ -1,6 +1,6 @@
 -- The unique text of a table of avalanches.
 use Rattle.std.specs.Prelude.{ℕ, List, [], ◌∷◌, ◌++◌, codes}
-use Rattle.sand_settle.specs.Avalanches.{Avalanche}
+use Rattle.sand_fronts.specs.declared.avalanche.Avalanche.{Avalanche}
 use Rattle.sand_text.specs.Texts.{row_text}
 
 -- the line of a drop: its number, and the five fields of its avalanche

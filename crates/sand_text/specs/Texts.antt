@@ -1,10 +1,9 @@
--- The unique text of a pile, and of a settled pile.
+-- The unique text of a pile.
 use Rattle.std.specs.Prelude.{ℕ, zero, suc, List, [], ◌∷◌, ◌++◌, length, take, drop, decimal, codes, ◌==◌, if◌then◌else◌}
 use Rattle.sand_model.specs.declared.shape.Edge.{Edge}
 use Rattle.sand_model.specs.declared.shape.Edge.TheVariants.{Open, Cylinder}
 use Rattle.sand_model.specs.Grid.{Grid}
 use Rattle.sand_model.specs.Piles.{PileView}
-use Rattle.sand_settle.specs.Settling.{SettledView}
 
 -- a line of numbers, separated by spaces
 unfoldable pub row_text : List ℕ → List ℕ
@@ -34,11 +33,6 @@ text_of p = shape_text p.grid ++ sites_text p.grid p.heights
 
 abbrev pub odometer_text : Grid → List ℕ → List ℕ
 odometer_text g ns = codes "odometer\n" ++ sites_text g ns
-
--- the pile, how often each site toppled, and the sums
-abbrev pub settle_text_of : SettledView → List ℕ
-settle_text_of r = text_of r.pile ++ odometer_text r.pile.grid r.odometer
-    ++ codes "lost " ++ decimal r.lost ++ codes "\ntopplings " ++ decimal r.topplings ++ codes "\n"
 
 -- a line with the name and the value of a sum
 abbrev pub sum_line : List ℕ → ℕ → List ℕ

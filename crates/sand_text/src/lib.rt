@@ -2,7 +2,6 @@
 #![tactic(auto)]
 
 mod blocks;
-mod burning;
 mod bytes;
 mod drops;
 mod fault;
@@ -21,16 +20,15 @@ mod tokens;
 mod two_piles;
 
 pub use blocks::Blocks;
-pub use burning::burn_text;
 pub use drops::read_drops;
 pub use fault::{ReadFault, StreamFault, TextFault};
 pub use flow::{INPUT_LIMIT, read_all, write_text};
 pub use journal::{push_journal_head, push_journal_line};
 pub use laws::{numbers_are_runs, read_again, strange_byte};
 pub use pictures::{no_long_line, pgm_text};
-pub use piles::{pile_text, read_pile, settle_text};
+pub use piles::{pile_text, push_odometer, read_pile};
 pub use places::{column, line};
-pub use rows::push_sum;
+pub use rows::{push_number, push_sum};
 pub use runs::{Sums, lab_text};
 pub use tables::{table_head, table_text};
 pub use tokens::{Token, Tokens};

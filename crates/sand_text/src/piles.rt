@@ -1,10 +1,10 @@
-//! Reading a pile, and writing a pile or a settled pile.
+//! Reading and writing a pile.
 
 ghost use Rattle.std.specs.Prelude.{◌≡◌, ◌+◌, ◌≤◌, ◌++◌, length, sum, vec_len, vec_capacity, IsOk, OnOk, IfOk, IfErr};
 ghost use Rattle.sand_model.specs.Grid.{sites};
 ghost use Rattle.sand_text.specs.Tokens.{tokens, numbers};
 ghost use Rattle.sand_text.specs.Reading.{Reads, pile_of, heights_on};
-ghost use Rattle.sand_text.specs.Texts.{shape_text, text_of, odometer_text, settle_text_of};
+ghost use Rattle.sand_text.specs.Texts.{shape_text, text_of, odometer_text};
 ghost use Rattle.sand_model.specs.Piles.{most_grains};
 
 use crate::fault::{ReadFault, TextFault};
@@ -12,7 +12,6 @@ use crate::numbers::Numbers;
 use crate::rows::{push_number, push_sites};
 use crate::survey::plain_survey;
 use sand_model::{Edge, Pile, Shape};
-use sand_settle::Settled;
 use std::alloc::{AllocError, Global};
 
 // The shape and the grains of the pile, if the text has no fault.
@@ -64,11 +63,7 @@ pub(crate) fn push_pile(text: &mut Vec<u8>, pile: &Pile) -> Result<(), AllocErro
 }
 
 /// Writes how often each site toppled, by grid rows.
-pub(crate) fn push_odometer(
-    text: &mut Vec<u8>,
-    shape: Shape,
-    odometer: &[u64],
-) -> Result<(), AllocError>
+pub fn push_odometer(text: &mut Vec<u8>, shape: Shape, odometer: &[u64]) -> Result<(), AllocError>
     requires { length odometer.now ≡ sites shape }
     ensures { OnOk result (text.new.items ≡ text.old.items ++ odometer_text shape odometer.now) }
 {
@@ -82,20 +77,5 @@ pub fn pile_text(alloc: Global, pile: &Pile) -> Result<Vec<u8>, AllocError>
 {
     let mut text = Vec::new(alloc);
     push_pile(&mut text, pile)?;
-    Ok(text)
-}
-
-/// The text of a settled pile: the pile, how often each site toppled, by grid rows, the grains lost, and the total
-/// topplings.
-pub fn settle_text(alloc: Global, settled: &Settled) -> Result<Vec<u8>, AllocError>
-    ensures { IfOk result (λ text. text.items ≡ settle_text_of settled.now) }
-{
-    let mut text = pile_text(alloc, settled.pile())?;
-    push_odometer(&mut text, settled.pile().shape(), settled.odometers())?;
-    text.extend_from_slice(b"lost ")?;
-    push_number(&mut text, settled.lost())?;
-    text.extend_from_slice(b"\ntopplings ")?;
-    push_number(&mut text, settled.topplings())?;
-    text.extend_from_slice(b"\n")?;
     Ok(text)
 }

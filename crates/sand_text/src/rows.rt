@@ -9,7 +9,7 @@ use sand_model::Shape;
 use std::alloc::AllocError;
 
 /// Writes a number in decimal, without leading zeros.
-pub(crate) fn push_number(text: &mut Vec<u8>, number: u64) -> Result<(), AllocError>
+pub fn push_number(text: &mut Vec<u8>, number: u64) -> Result<(), AllocError>
     ensures written { OnOk result (text.new.items ≡ text.old.items ++ decimal number) }
 
     // It succeeds if there is room for a number.

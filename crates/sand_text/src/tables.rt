@@ -5,7 +5,7 @@ ghost use Rattle.sand_text.specs.Tables.{entry_text, table_head, table_text_of};
 ghost use Rattle.sand_text.specs.Texts.{row_text};
 
 use crate::rows::push_row;
-use sand_settle::Avalanche;
+use sand_fronts::Avalanche;
 use std::alloc::{AllocError, Global};
 
 /// The numbers in the line of a drop: its own, and its avalanche's.

@@ -5,18 +5,9 @@
 
 ghost use Rattle.std.specs.Prelude.{◌<◌, length};
 
-mod answering;
-mod arguments;
-mod explaining;
-mod kept;
-mod request;
-
-use answering::answer;
-use arguments::{is_nothing, words_of};
-use kept::Kept;
-use request::{Asked, Misuse, request_of};
-use sand_advice::{Cleared, advice, progress_of, tip};
-use sand_desk::{DeskFault, report_fault};
+use sand_advice::{Cleared, Kept, advice, progress_of, tip};
+use sand_cli::{Asked, Misuse, is_nothing, request_of, words_of};
+use sand_desk::{DeskFault, answer, report_fault};
 use std::alloc::Global;
 use std::io;
 use std::io::{IsTerminal, Read, Write};
@@ -83,7 +74,14 @@ fn carry_out<
     };
     let is_same = stdout.is_terminal();
     let mut output = Cleared::new(stdout, progress.as_ref().filter(|_| is_same));
-    let answered = answer(rt, alloc, progress.as_ref(), asked, &mut input, &mut output);
+    let answered = answer(
+        rt,
+        alloc,
+        &progress.as_ref(),
+        asked,
+        &mut input,
+        &mut output,
+    );
     if let Some(progress) = &progress {
         progress.end();
     }
@@ -110,17 +108,6 @@ fn report_misuse<R: Eprint>(rt: &R, misuse: Misuse<'_>) -> ExitCode {
     ExitCode::from(2)
 }
 
-// The number at the end of a fault's line, or 0.
-fn place_of(fault: &DeskFault) -> usize {
-    match fault {
-        DeskFault::Text(place)
-        | DeskFault::TooLarge(place)
-        | DeskFault::NoSite(place)
-        | DeskFault::Write(place) => *place,
-        _ => 0,
-    }
-}
-
 // Tells a person what a fault means here, and what to do. If memory runs out for that, nothing is said.
 fn advise<R: Eprint>(
     rt: &R,
@@ -136,7 +123,7 @@ fn advise<R: Eprint>(
             command.as_str(),
             input,
             fault.number(),
-            place_of(fault),
+            fault.place(),
         ),
         _ => return,
     };

@@ -1,23 +1,15 @@
 use Rattle.std.proofs.lemmas.Grind.{common_steps}
-use Rattle.std.proofs.Common.{arith, ◌≡◌, sym, subst}
-use Rattle.std.proofs.lemmas.Result.{err_from_is_err_and}
-use Rattle.std.specs.Prelude.{Option, Some}
-use Rattle.std.specs.Result.{IfErr}
-use Rattle.sand_cli.specs.declared.task.Draw.{Draw}
-use Rattle.sand_cli.specs.declared.task.Task.TheVariants.{Drops}
-use Rattle.sand_desk.specs.Commands.{IsFaultOf, IsTextOf, WorkEnds}
-use Rattle.sand_desk.proofs.Endings.{found_first}
+use Rattle.std.proofs.Common.{arith}
+use Rattle.std.proofs.lemmas.Result.{IfErr-weaker, err_from_is_err_and, on_ok_weaker}
+use Rattle.sand_commands.proofs.Endings.{found_first}
+use Rattle.sand_desk.proofs.WithoutLab.{ends, written}
 use Rattle.sand_desk.proofs.commands.carry_out.Goals as goal
 
-pub returns-in-Drops-Some-default-clause-fault : goal.returns-in-Drops-Some-default-clause-fault
-returns-in-Drops-Some-default-clause-fault g c =
-    let drawn : c.in-Drops-Some-default.drawn ≡ Some c.in-Drops-Some-default.draw =
-    rw c.in-Drops-Some-default.is at c.in-Drops-Some-default.drawn-is in
-    let P : Option Draw → Type 0 =
-    λ d. IfErr c.drawn_drops.result (WorkEnds (IsTextOf (Drops d c.in-Drops-Some-default.part) c.args.input.now)
-    (IsFaultOf (Drops d c.in-Drops-Some-default.part) c.args.input.now)
-    (g.W.Write.contents c.args.writer.now) (g.W.Write.contents c.drawn_drops.new.writer)) in
-    rw c.in-Drops-Some-default.is (subst P (sym drawn) c.drawn_drops.ensures.fault)
+pub returns-in_default : goal.returns-in_default
+returns-in_default g c = record {
+  done = on_ok_weaker c.carry_out.result (written c.args.task c.args.input.now _ _) c.carry_out.ensures.done;
+  fault = IfErr-weaker c.carry_out.result _ _ (ends c.args.task c.args.input.now _ _) c.carry_out.ensures.fault;
+}
 
 pub returns-in_err-text-clause-fault : goal.returns-in_err-text-clause-fault
 returns-in_err-text-clause-fault g c = grind (arith, common_steps, err_from_is_err_and, found_first)

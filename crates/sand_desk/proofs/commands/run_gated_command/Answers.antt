@@ -3,7 +3,8 @@ use Rattle.std.proofs.Common.{arith}
 use Rattle.std.specs.Prelude.{map, string_bytes}
 use Rattle.std.proofs.lemmas.Result.{IfErr-weaker, err_from_is_err_and}
 use Rattle.sand_desk.specs.Commands.{Call, IsRead, call_of}
-use Rattle.sand_desk.proofs.Endings.{keeps, reading_ends, work_ends, work_no_help}
+use Rattle.sand_commands.proofs.Endings.{keeps}
+use Rattle.sand_desk.proofs.Endings.{reading_ends, work_ends, work_no_help}
 use Rattle.sand_desk.proofs.commands.run_gated_command.Goals as goal
 
 pub returns-in_err-input-clause-fault : goal.returns-in_err-input-clause-fault

@@ -1,0 +1,11 @@
+pub mod Rows
+pub mod DropsExist
+pub mod DrawnSites
+pub mod Streaming
+pub mod DrawnText
+pub mod DropSites
+pub mod Drawing
+pub mod Unfit
+pub mod Endings
+pub mod OneNumber
+pub mod RunsInParts

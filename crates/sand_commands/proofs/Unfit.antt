@@ -1,0 +1,11 @@
+-- Why a sum is refused, given why one of its piles is.
+use Rattle.std.proofs.lemmas.Grind.{common_steps}
+use Rattle.std.proofs.Common.{arith, List, ℕ}
+use Rattle.sand_group.specs.declared.faults.GroupFault.{GroupFault}
+use Rattle.sand_commands.specs.Commands.{IsSumFault, Finds}
+use Rattle.sand_commands.specs.Faults.{of_group}
+use Rattle.sand_commands.specs.GroupCommands.{IsUnfitPair}
+
+pub pair_refused : (input : List ℕ) (fault : GroupFault)
+    → IsUnfitPair input fault → Finds (IsSumFault input) (of_group fault)
+pair_refused input fault why = grind (arith, common_steps)

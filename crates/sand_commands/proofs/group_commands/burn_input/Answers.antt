@@ -1,0 +1,18 @@
+use Rattle.std.proofs.lemmas.Result.{IfOk-weaker}
+use Rattle.sand_model.specs.Piles.{height_of}
+use Rattle.sand_group.proofs.WhyRefused.{stable}
+use Rattle.sand_commands.proofs.group_commands.burn_input.Goals as goal
+
+pub returns-clause-text : goal.returns-clause-text
+returns-clause-text c =
+    IfOk-weaker c.burn_text.result _ _
+    (λ text written. record {
+      pile = c.in_ok-pile.pile;
+      burned = c.in_ok-burned.burned;
+      read = c.in_ok-pile.ensures;
+      stable = stable c.in_ok-pile.pile.grid (height_of c.in_ok-pile.pile)
+          (λ high. let is = c.in_ok-burned.ensures.unstable.1 high in cc);
+      found = c.in_ok-burned.ensures.burned;
+      written = rw c.shape.ensures.value at written;
+    })
+    c.burn_text.ensures.text

@@ -1,0 +1,16 @@
+-- What the parsers and writers return, with the program's faults.
+use Rattle.std.specs.Prelude.{◌≡◌, Result, Ok, Err, IsOk}
+use Rattle.sand_text.specs.declared.fault.TextFault.{TextFault}
+use Rattle.sand_commands.specs.declared.faults.DeskFault.{DeskFault}
+use Rattle.sand_commands.specs.declared.faults.DeskFault.TheVariants as desk
+use Rattle.sand_commands.specs.Faults.{of_text}
+
+-- the text has this fault; memory runs out only if it has none
+abbrev pub Fails : {A : Type 0} → DeskFault → Result A TextFault → Type 0
+Fails desk.Memory read = IsOk read
+Fails fault read = (why : TextFault) × (read ≡ Err why) × (fault ≡ of_text why)
+
+-- the view of the result is the reading
+abbrev pub ReadsAs : {A B : Type 0} → (A → B) → Result A DeskFault → Result B TextFault → Type 0
+ReadsAs view (Ok value) read = read ≡ Ok (view value)
+ReadsAs view (Err fault) read = Fails fault read

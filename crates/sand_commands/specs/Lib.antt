@@ -1,0 +1,11 @@
+pub mod Answers
+pub mod Commands
+pub mod DropsCommand
+pub mod Faults
+pub mod GroupCommands
+pub mod Help
+pub mod Parts
+pub mod Results
+pub mod SettleCommand
+pub mod Streaming
+pub mod Version

@@ -1,5 +1,0 @@
-use Rattle.std.proofs.Common.{rules}
-use Rattle.sand_desk.proofs.faults.DeskFault.row.Goals as goal
-
-pub returns-in-Narrow-clause-name : goal.returns-in-Narrow-clause-name
-returns-in-Narrow-clause-name c = search rules

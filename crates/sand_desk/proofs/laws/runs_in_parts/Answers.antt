@@ -1,5 +1,0 @@
-use Rattle.sand_desk.proofs.RunsInParts.{runs_in_parts}
-use Rattle.sand_desk.proofs.laws.runs_in_parts.Goals as goal
-
-pub returns : goal.returns
-returns c = runs_in_parts

@@ -1,5 +1,0 @@
-use Rattle.std.proofs.Common.{rules}
-use Rattle.sand_desk.proofs.settle_command.settle_input.Goals as goal
-
-pub returns-in-Pile-clause-text : goal.returns-in-Pile-clause-text
-returns-in-Pile-clause-text c = search rules

@@ -1,0 +1,41 @@
+//! Does what the words ask for: runs a command or shows its help, or writes a text of the program itself.
+
+ghost use Rattle.std.specs.Prelude.{◌≡◌, ◌≢◌, ◌<◌, IfErr, OnOk, length, map, string_bytes};
+ghost use Rattle.sand_commands.specs.Faults.{status_of};
+ghost use Rattle.sand_desk.specs.Answering.{IsAnswer, IsNoAnswer};
+ghost use Rattle.sand_desk.specs.Commands.{TellsWords, call_of};
+
+use crate::helping::run_or_help;
+use sand_cli::{Asked, Request};
+use sand_commands::{DeskFault, write_explain_help, write_explained, write_version};
+use sand_plan::Gate;
+use std::alloc::Global;
+use std::io::{Read, Write};
+use std::thread::Threads;
+
+/// Does what the words ask for. The gate is called as in `run_gated_command`.
+pub fn answer<T: Threads + Sync, G: Gate, R: Read, W: Write>(
+    rt: &T,
+    alloc: Global,
+    gate: &G,
+    asked: Asked<'_>,
+    input: &mut R,
+    output: &mut W,
+) -> Result<(), DeskFault>
+    requires { 0 < length asked.words.now }
+    ensures done { OnOk result (IsAnswer asked.entry.request (map string_bytes asked.entry.words.now)
+        (call_of (map string_bytes asked.entry.words.now)
+        (R.remaining input.old) (R.remaining input.new) (W.contents output.old) (W.contents output.new))) }
+    ensures fault { IfErr result (IsNoAnswer asked.entry.request (map string_bytes asked.entry.words.now)
+        (call_of (map string_bytes asked.entry.words.now)
+        (R.remaining input.old) (R.remaining input.new) (W.contents output.old) (W.contents output.new))) }
+    ensures told { IfErr result (TellsWords (map string_bytes asked.entry.words.now)) }
+    ensures status { IfErr result (λ e. status_of e ≢ 0) }
+{
+    match asked.request {
+        Request::Version => write_version(output),
+        Request::Explain(number) => write_explained(alloc, number, output),
+        Request::ExplainHelp => write_explain_help(output),
+        Request::Command => run_or_help(rt, alloc, gate, asked.words, input, output),
+    }
+}
