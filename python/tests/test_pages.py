@@ -142,7 +142,8 @@ class OtherDebian(unittest.TestCase):
 
     def test_what_fails_there_fails_here(self):
         tried = script("other-debian")
-        parts = [["sh", "-c", "echo 'a: 3 passed, 1 failed, 2 left out'; exit 1"], ["sh", "-c", "exit 3"], ["echo", "b: 5 passed, 0 failed"]]
+        words = ("echo 'a: 3 passed, 1 failed, 2 left out'; exit 1", "exit 3", "echo 'b: 5 passed, 0 failed'")
+        parts = [["sh", "-c", word] for word in words]
         with contextlib.ExitStack() as stack:
             for name, stand_in in {"make_release": mock.Mock(), "copy_checkout": mock.Mock(), "PARTS": parts}.items():
                 stack.enter_context(mock.patch.object(tried, name, stand_in))
