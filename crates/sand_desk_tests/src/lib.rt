@@ -1,5 +1,5 @@
-//! Tests of `sand_text` and `sand_desk` that no run of the program shows: readers that fail and writers that stop, what
-//! a fault says of itself, pictures, texts that no command writes, and the readings as calls.
+//! Tests of `sand_text`, `sand_desk` and `sand_advice` that no run of the program shows: readers that fail and writers
+//! that stop, what a fault says of itself, pictures, texts that no command writes, and the readings as calls.
 //!
 //! `stopping` has the readers and the writer. They are not tests: each proves that it tells its bytes.
 //!
