@@ -11,7 +11,7 @@ from tools import TOP, files_in, needs, new_folder, ran, stand_in
 
 PARTS = [
     "tools/wrong-bodies", "tools/statement", "build", "tools/cases", "tools/at-a-terminal", "python/tests/run", "tools/try-examples",
-    "tools/refusals",
+    "tools/other-debian", "tools/refusals",
 ]
 SHARED = ["tools/paths.py", "tools/running.py", "tools/crate_list.py"]
 SYSTEM = "/usr/bin:/bin"
@@ -66,7 +66,7 @@ class OfCheck(OfScripts):
     def test_the_checkout_stays_as_it_is(self):
         before = files_in(self.top)
         status, said, _ = self.run_in("./check")
-        self.assertEqual((status, said.splitlines()[-1]), (0, "21 passed, 0 failed"))
+        self.assertEqual((status, said.splitlines()[-1]), (0, "23 passed, 0 failed"))
         self.assertEqual(files_in(self.top), before)
         self.assertEqual(list(self.room.iterdir()), [])
 
@@ -92,7 +92,7 @@ class OfCheck(OfScripts):
         for words, lines, call in (([], [], "rt ci"), (["--anew"], [], "rt ci"), (["--anew"], [has_word], "rt ci --anew")):
             stand_in(rt, *lines, '[ $1 = help ] && echo ci && exit', *proves.splitlines()[1:])
             status, said, _ = self.run_in("./check", *words)
-            self.assertEqual((status, said.splitlines()[-1]), (0, "21 passed, 0 failed"))
+            self.assertEqual((status, said.splitlines()[-1]), (0, "23 passed, 0 failed"))
             self.assertEqual(self.noted(), [call])
 
     def test_a_failed_part_is_the_last(self):
