@@ -20,7 +20,8 @@ def options(program: Path, command: str) -> Iterator[tuple[str, bool, str]]:
 
 
 def for_bash(program: Path, table: Table) -> str:
-    cases = "\n".join(f"        {name}) words='{' '.join(f'--{option}' for option, _, _ in options(program, name))}' ;;" for name in table)
+    words = {name: " ".join(f"--{option}" for option, _, _ in options(program, name)) for name in table}
+    cases = "\n".join(f"        {name}) words='{words[name]}' ;;" for name in table)
     return f"""# Completion of sandpile for bash.
 _sandpile() {{
     local words
@@ -44,7 +45,9 @@ def for_zsh(program: Path, table: Table) -> str:
     names = "\n".join(f"        {quoted(name)[:-1]}:{quoted(text)[1:]}" for name, text in table.items())
     cases = "\n".join(
         f"        {name}) _arguments "
-        + " ".join(f"'--{option}[{quoted(text)[1:-1]}]{':value: ' if value else ''}'" for option, value, text in options(program, name))
+        + " ".join(
+            f"'--{option}[{quoted(text)[1:-1]}]{':value: ' if value else ''}'" for option, value, text in options(program, name)
+        )
         + " ;;"
         for name in table
     )

@@ -58,7 +58,7 @@ def toolchain() -> str:
 
 
 def own_sources(crate: str) -> list[str]:
-    """A crate's line of crates.txt, and the checksum of each of its sources. Tests and wrong bodies (must-fail/) are not sources."""
+    """A crate's line of crates.txt, and the checksum of each of its sources. Tests and wrong bodies are not sources."""
     folder = TOP / "crates" / crate
     files = (file for part in ("src", "specs", "proofs") for file in folder.joinpath(part).rglob("*"))
     names = {str(file.relative_to(folder)): file for file in files if file.is_file() and not file.is_symlink()}

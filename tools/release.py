@@ -1,6 +1,6 @@
-"""The release: release/SHA256SUMS has the checksums of the program, the library and the wheel, of the notes of what they are made from,
-and the kit that proved them. Whoever proves the same sources with that kit gets the same bytes. The released wheel, in dist/, has both
-products; they are used where neither is built."""
+"""The release: release/SHA256SUMS has the checksums of the program, the library and the wheel, and of the notes of what they are made
+from, and the kit that proved them. Whoever proves the same sources with that kit gets the same bytes. The released wheel, in dist/,
+has both products; they are used where neither is built."""
 
 from __future__ import annotations
 
@@ -26,7 +26,8 @@ LINE = re.compile(r"([0-9a-f]{64})  (.+)")
 PROVED_BY = "# proved by "
 WHERE = {PROGRAM: re.compile(r".*\.data/scripts/sandpile"), LIBRARY: re.compile(rf"sandpile/{re.escape(paths.LIBRARY.name)}")}
 # What a wheel is packed from, apart from the program and the library.
-PACKED = ("python/sandpile/*.py", "python/sandpile/py.typed", "python/*.md", "python/for-pip/METADATA.in", "tools/wheel", "tools/man-page")
+MODULE = ("python/sandpile/*.py", "python/sandpile/py.typed", "python/README.md", "python/for-pip/METADATA.in")
+PACKED = (*MODULE, "tools/wheel", "tools/man-page")
 
 
 class Release(NamedTuple):
@@ -55,8 +56,8 @@ def sources_of_wheel() -> str:
 
 
 def compared(product: Path) -> tuple[int, str]:
-    """Compares what was built with the release: an exit status, which is 1 only if sources and kit are those of the release, but not
-    the bytes; and a sentence."""
+    """Compares what was built with the release: an exit status, which is 1 only if sources and kit are those of the release, but
+    not the bytes; and a sentence."""
     name, release = product.relative_to(TOP), released()
     made_from, made_by = product.with_name(products.MADE_FROM), product.with_name(products.MADE_BY)
     if not release.has(made_from, made_from.read_bytes()):
@@ -64,10 +65,11 @@ def compared(product: Path) -> tuple[int, str]:
     if release.has(product, product.read_bytes()):
         return 0, f"{name} has the same bytes as in release/SHA256SUMS: this machine has proved what the release is"
     if made_by.read_text() != release.kit:
-        return 0, f"{name} has other bytes than in release/SHA256SUMS, which {release.kit.strip()} proved: that kit's compiler may differ"
+        kit = release.kit.strip()
+        return 0, f"{name} has other bytes than in release/SHA256SUMS, which {kit} proved: that kit's compiler may differ"
     return 1, (
-        f"{name} has other bytes than in release/SHA256SUMS, which is of the same sources and kit: the file was changed after it was "
-        f"built, or one of the two builds went wrong; remove {name.parent}, and build again"
+        f"{name} has other bytes than in release/SHA256SUMS, which is of the same sources and kit: the file was changed after it "
+        f"was built, or one of the two builds went wrong; remove {name.parent}, and build again"
     )
 
 
@@ -81,8 +83,8 @@ def write() -> None:
 
 
 def wheel_for(goal: str) -> Path | None:
-    """The released wheel, if it is in dist/, its program or library is made from the sources of this checkout, and neither is built.
-    One with another checksum is refused."""
+    """The released wheel, if it is in dist/, its program or library is made from the sources of this checkout, and neither is
+    built. One with another checksum is refused."""
     release = released()
     wheels = [TOP / name for name in release.sums if name.endswith(".whl") and (TOP / name).exists()]
     made_from = {product: products.out_of(product) / products.MADE_FROM for product in products.FILES}
@@ -91,8 +93,8 @@ def wheel_for(goal: str) -> Path | None:
         return None
     if not release.has(wheels[0], wheels[0].read_bytes()):
         sys.exit(
-            f"{Path(sys.argv[0]).name}: {wheels[0]} has another checksum than in release/SHA256SUMS, so it is not what was released, "
-            "and is not used: get it again or, to build from the sources, remove it"
+            f"{Path(sys.argv[0]).name}: {wheels[0]} has another checksum than in release/SHA256SUMS, so it is not what was "
+            "released, and is not used: get it again or, to build from the sources, remove it"
         )
     return wheels[0]
 

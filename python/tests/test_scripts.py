@@ -276,7 +276,8 @@ class OfBuild(WithToolchain):
         noted = self.noted()
         self.assertEqual([line.partition(" ")[0] for line in noted if " over " in line], ["low", "sandpile", "sand_c"])
         self.assertEqual(noted[-1], f"wheel {self.top}/dist")
-        self.assertEqual(sorted(path.name for path in (self.top / "dist").iterdir()), ["made-by", "made-from", "sandpile-2.whl", "theirs.whl"])
+        names = ["made-by", "made-from", "sandpile-2.whl", "theirs.whl"]
+        self.assertEqual(sorted(path.name for path in (self.top / "dist").iterdir()), names)
 
     def test_what_is_not_built_is_not_packed(self):
         stand_in(self.top / "tools/wheel", 'echo "wheel $*" >> "$LOG"')
@@ -301,7 +302,8 @@ class OfRelease(WithToolchain):
         super().setUp()
         stand_in(self.kit / "bin/rattle-link", "cat /bin/echo sandpile.o > sandpile", "chmod +x sandpile")
         pack = "import sys, zipfile as z; w = z.ZipFile(sys.argv[1] + '/sandpile-2.whl', 'w'); "
-        for product, name in (("sandpile/out/sandpile", "sandpile-2.data/scripts/sandpile"), ("sand_c/out/libsandpile.so.1", "sandpile/libsandpile.so.1")):
+        packed = {"sandpile/out/sandpile": "sandpile-2.data/scripts/sandpile", "sand_c/out/libsandpile.so.1": "sandpile/libsandpile.so.1"}
+        for product, name in packed.items():
             pack += f"w.writestr(z.ZipInfo('{name}'), open('crates/{product}', 'rb').read()); "
         stand_in(self.top / "tools/wheel", f'cd "{self.top}" && python3 -c "{pack} w.close()" "$1" && echo sandpile-2.whl')
         self.program, self.wheel = self.top / "crates/sandpile/out/sandpile", self.top / "dist/sandpile-2.whl"
@@ -320,17 +322,19 @@ class OfRelease(WithToolchain):
     @needs("sha256sum")
     def test_the_checksums(self):
         checked = subprocess.run(["sha256sum", "-c", "release/SHA256SUMS"], cwd=self.top, capture_output=True, text=True)
-        folders = ["crates/sandpile/out/", "crates/sand_c/out/", "dist/"]
-        files = [f"{folder}{name}" for folder, product in zip(folders, ("sandpile", "libsandpile.so.1", "sandpile-2.whl")) for name in ("made-from", product)]
+        products = ("crates/sandpile/out/sandpile", "crates/sand_c/out/libsandpile.so.1", "dist/sandpile-2.whl")
+        files = [file for product in products for file in (f"{Path(product).parent}/made-from", product)]
         self.assertEqual((checked.returncode, checked.stdout), (0, "".join(f"{file}: OK\n" for file in files)))
         self.assertEqual((self.top / "release/SHA256SUMS").read_text().splitlines()[0], "# proved by kit")
 
     def test_the_same_bytes(self):
-        said = "build: crates/sandpile/out/sandpile has the same bytes as in release/SHA256SUMS: this machine has proved what the release is"
+        said = "build: crates/sandpile/out/sandpile has the same bytes as in release/SHA256SUMS"
+        said += ": this machine has proved what the release is"
         self.assertEqual(self.last_line("./build"), (0, said))
         self.remove_what_is_built()
         self.assertEqual(self.last_line("./build"), (0, said))
-        self.assertEqual(self.last_line("./build", "wheel"), (0, said.replace("crates/sandpile/out/sandpile", "dist/sandpile-2.whl")))
+        said = said.replace("crates/sandpile/out/sandpile", "dist/sandpile-2.whl")
+        self.assertEqual(self.last_line("./build", "wheel"), (0, said))
 
     def test_a_bit_is_flipped(self):
         for file, words in ((self.program, []), (self.top / "crates/sand_c/out/libsandpile.so.1", ["library"])):
@@ -339,7 +343,8 @@ class OfRelease(WithToolchain):
             file.write_bytes(content)
             status, line = self.last_line("./build", *words)
             self.assertEqual(status, 1)
-            self.assertIn(f"build: {file.relative_to(self.top)} has other bytes than in release/SHA256SUMS, which is of the same sources and kit", line)
+            said = f"build: {file.relative_to(self.top)} has other bytes than in release/SHA256SUMS"
+            self.assertIn(f"{said}, which is of the same sources and kit", line)
 
     def test_another_kit_may_make_other_bytes(self):
         self.is_kit("another")
@@ -347,7 +352,8 @@ class OfRelease(WithToolchain):
         link = self.kit / "bin/rattle-link"
         link.write_text(link.read_text().replace("/bin/echo", "/bin/true"))
         self.is_kit("a third")
-        said = "build: crates/sandpile/out/sandpile has other bytes than in release/SHA256SUMS, which kit proved: that kit's compiler may differ"
+        said = "build: crates/sandpile/out/sandpile has other bytes than in release/SHA256SUMS, which kit proved"
+        said += ": that kit's compiler may differ"
         self.assertEqual(self.last_line("./build"), (0, said))
 
     def test_other_sources(self):
@@ -376,7 +382,8 @@ class OfRelease(WithToolchain):
         self.wheel.write_bytes(self.wheel.read_bytes() + b" ")
         status, line = self.last_line("./sandpile", "settle")
         self.assertEqual(status, 1)
-        self.assertRegex(line, r"^build: .*/dist/sandpile-2.whl has another checksum than in release/SHA256SUMS, so it is not what was released")
+        said = "has another checksum than in release/SHA256SUMS, so it is not what was released"
+        self.assertRegex(line, f"^build: .*/dist/sandpile-2.whl {said}")
         self.assertEqual(self.proved(), [])
 
     def test_what_is_built_comes_before_the_released_program(self):
