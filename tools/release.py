@@ -8,6 +8,7 @@ import contextlib
 import hashlib
 import os
 import re
+import signal
 import sys
 import zipfile
 from collections.abc import Iterator
@@ -134,6 +135,8 @@ def run(words: list[str]) -> NoReturn:
     handle = os.memfd_create("sandpile")
     with open(handle, "wb", closefd=False) as memory:
         memory.write(content(wheel, PROGRAM))
+    for number in (signal.SIGPIPE, signal.SIGXFSZ):  # which Python ignores, and the program would, too
+        signal.signal(number, signal.SIG_DFL)
     os.execve(handle, ["sandpile", *words], os.environ)
 
 

@@ -257,13 +257,13 @@ class OfBuild(WithToolchain):
             "def crates_below(top): return [Crate('low'), Crate('sandpile')]\n"
         )
         self.run_in("./build")
-        self.assertEqual(self.run_in("./build", "for-rt"), (0, "", ""))
+        self.assertEqual(self.run_in("./build", "for-rt"), (0, "", "build: `rt` has low\n"))
         lent = self.top / "crates/low/out/rlib"
         self.assertEqual((lent / "stamp").read_text(), "stamp of low")
         self.assertEqual((lent / "low.rlib/format").read_text(), "crates/low/src/lib.rt")
-        (lent / "low.rlib/format").write_text("theirs")
-        self.run_in("./build", "for-rt")
-        self.assertEqual((lent / "low.rlib/format").read_text(), "theirs")
+        (lent / "low.rlib/theirs").touch()
+        self.assertEqual(self.run_in("./build", "for-rt"), (0, "", ""))
+        self.assertTrue((lent / "low.rlib/theirs").exists())
 
     def test_the_wheel_is_packed_after_both_are_built(self):
         stand_in(self.top / "tools/wheel", 'echo "wheel $*" >> "$LOG"', 'touch "$1/sandpile-2.whl"; echo sandpile-2.whl')
@@ -369,6 +369,14 @@ class OfRelease(WithToolchain):
             folder.chmod(0o555)
         self.assertEqual(self.run_in("./sandpile", "settle", "it", env=without), (0, "settle it\n", said))
         self.assertEqual(self.run_in("./sandpile", env=without), (0, "\n", said))
+
+    def test_a_closed_pipe_ends_the_released_program_as_any_other(self):
+        self.remove_what_is_built()
+        ours, theirs = os.pipe()
+        os.close(ours)
+        ended = subprocess.run(["./sandpile", "settle"], cwd=self.top, env=self.env, stdout=theirs, stderr=subprocess.PIPE)
+        os.close(theirs)
+        self.assertEqual(ended.returncode, -signal.SIGPIPE)
 
     @lacks_rt
     def test_a_changed_source_is_built_and_not_taken_from_the_release(self):
