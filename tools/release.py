@@ -10,6 +10,7 @@ import os
 import re
 import signal
 import sys
+import time
 import zipfile
 from collections.abc import Iterator
 from pathlib import Path
@@ -72,6 +73,20 @@ def compared(product: Path) -> tuple[int, str]:
         f"{name} has other bytes than in release/SHA256SUMS, which is of the same sources and kit: the file was changed after it "
         f"was built, or one of the two builds went wrong; remove {name.parent}, and build again"
     )
+
+
+def origin(product: Path) -> str:
+    """Whether a product is built in this checkout, when and by which kit, and whether from its sources as they are."""
+    name, note = product.relative_to(TOP), product.with_name(products.MADE_FROM)
+    if not (product.exists() and note.exists()):
+        is_released = product.exists() and released().has(product, product.read_bytes())
+        return f"{name}: " + ("the release, not proved on this machine" if is_released else "not built")
+    goal = next((goal for goal, file in products.FILES.items() if file == product), None)
+    sources = products.sources(goal) if goal else sources_of_wheel()
+    when = time.strftime("%Y-%m-%d %H:%M", time.localtime(note.stat().st_mtime))
+    kit = product.with_name(products.MADE_BY).read_text().strip()
+    changed = "no source has changed since" if note.read_text() == sources else "a source has changed since"
+    return f"{name}: proved and built in this checkout by {kit}, {when}; {changed}"
 
 
 def write() -> None:

@@ -346,6 +346,21 @@ class OfRelease(WithToolchain):
             said = f"build: {file.relative_to(self.top)} has other bytes than in release/SHA256SUMS"
             self.assertIn(f"{said}, which is of the same sources and kit", line)
 
+    def test_what_is_built(self):
+        built = [self.program, self.top / "crates/sand_c/out/libsandpile.so.1", self.wheel]
+        names = [file.relative_to(self.top) for file in built]
+        for file in built:
+            os.utime(file.with_name("made-from"), (0, 0))
+        self.change("low", "changed")
+        status, said, _ = self.run_in("./build", "what", env={**self.env, "TZ": "UTC"})
+        here = "proved and built in this checkout by kit, 1970-01-01 00:00; a source has changed since"
+        self.assertEqual((status, said), (0, "".join(f"{name}: {here}\n" for name in names)))
+        for file in built:
+            file.with_name("made-from").unlink()
+        self.program.unlink()
+        hints = ["not built", "the release, not proved on this machine", "the release, not proved on this machine"]
+        self.assertEqual(self.run_in("./build", "what")[1], "".join(f"{name}: {it}\n" for name, it in zip(names, hints)))
+
     def test_another_kit_may_make_other_bytes(self):
         self.is_kit("another")
         self.assertIn("has the same bytes", self.last_line("./build")[1])
