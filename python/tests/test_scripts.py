@@ -472,6 +472,32 @@ class OfStatement(OfScripts):
         self.assertEqual(self.run_in("tools/statement", "--check"), (0, "", ""))
 
 
+class OfAWrongBody(OfScripts):
+    scripts = ("tools/wrong-bodies", "tools/products.py")
+    files = {
+        "crates.txt": "low: std\nhigh: low std\nother: low\n",
+        "HANDLES": "Handles allowed: none.\n",
+        "crates/low/src/lib.rt": "// low\n",
+        "crates/low/out/rlib/low.rlib": "a library",
+        "crates/high/src/lib.rt": "mod piles;\n",
+        "crates/high/src/piles.rt": "impl Pile {\n    fn one() -> u8 {\n        1\n    }\n}\n",
+        "crates/high/must-fail/two.edit": "file: src/piles.rt\nold:         1\nnew:         2\n",
+    }
+
+    def test_an_edit_alone(self):
+        for name, text in self.files.items():
+            (self.top / name).parent.mkdir(parents=True, exist_ok=True)
+            (self.top / name).write_text(text)
+        stand_in(self.bin / "rt", 'echo "$*"', "cat src/piles.rt ../../crates.txt ../low/out/rlib/low.rlib", "ls ..", "exit 1")
+        before = files_in(self.top)
+        status, said, _ = self.run_in("tools/wrong-bodies", "high/two")
+        edited = self.files["crates/high/src/piles.rt"].replace("1", "2")
+        lines = "check --only piles::Pile::one\n" + edited + "low: std\nhigh: low std\na libraryhigh\nlow\n"
+        self.assertEqual((status, said), (1, lines))
+        self.assertEqual((files_in(self.top), list(self.room.iterdir())), (before, []))
+        self.assertEqual(self.run_in("tools/wrong-bodies", "high/three")[:2], (2, ""))
+
+
 class OfTheGate(OfScripts):
     scripts = (".ci/run", "tools/try-examples", "tools/program_help.py", "python/with-numpy")
 
