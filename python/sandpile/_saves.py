@@ -1,14 +1,15 @@
-"""The file of a saved run: written in one step, and checked when it is read."""
+"""The file of a saved run: written in one step, whatever stops it, and checked when it is read."""
 
 from __future__ import annotations
 
+import contextlib
 import errno
 import io
 import os
 import zipfile
 from dataclasses import dataclass, fields
 from pathlib import Path
-from typing import Any
+from typing import Any, NamedTuple, Optional
 
 import numpy as np
 from numpy.lib import format as _format
@@ -51,31 +52,59 @@ class Saved:
         return self.pile + (self.odometer << 2) - taken
 
 
-def write(path: str | os.PathLike[str], saved: Saved) -> None:
-    """Writes a file under a name that no other call uses, then renames it: nobody ever reads a part of it."""
-    path, content = _npz(path), io.BytesIO()
-    arrays: dict[str, Any] = {name: np.asarray(value, _type_of(name)) for name, value in vars(saved).items()}
+class Rows(NamedTuple):
+    """What the save of a recording also has: how many rows the file of rows had, and the CRC-32 of these."""
+
+    rows: int
+    crc: int
+
+
+def write(path: str | os.PathLike[str], saved: Saved, rows: Optional[Rows] = None) -> None:
+    """Writes a file under another name, then renames it: nobody ever reads a part of it, even after a power cut. With `rows`, that
+    name is always the same, so one that a killed process has left is overwritten."""
+    path, content = npz(path), io.BytesIO()
+    values = {**vars(saved), **(rows._asdict() if rows else {})}
+    arrays: dict[str, Any] = {name: np.asarray(value, _type_of(name)) for name, value in values.items()}
     # Not into the file: if writing to it failed, zipfile would go on, and fail in its `__del__`, too.
     np.savez_compressed(content, **arrays)
-    beside = path.with_name(f"{path.name}.{os.urandom(8).hex()}.part")
+    unique = "" if rows else f".{os.urandom(8).hex()}"
+    beside = path.with_name(f"{path.name}{unique}.part")
     try:
-        with open(beside, "xb") as file:
+        with open(beside, "wb" if rows else "xb") as file:
             file.write(content.getbuffer())
+            file.flush()
+            os.fsync(file.fileno())
         os.replace(beside, path)
     finally:
         beside.unlink(missing_ok=True)
+    sync_folder(path)
+
+
+def sync_folder(path: Path) -> None:
+    """Has the names in the folder of a file outlast a power cut, if the folder can be read and its file system can do so."""
+    with contextlib.suppress(PermissionError):
+        folder = os.open(path.parent, os.O_RDONLY | os.O_DIRECTORY)
+        try:
+            os.fsync(folder)
+        except OSError as error:
+            if error.errno not in (errno.EINVAL, errno.ENOTSUP):
+                raise
+        finally:
+            os.close(folder)
 
 
 def _type_of(name: str) -> Any:
     return np.uint64 if name in _UNSIGNED else np.int64
 
 
-def read(path: str | os.PathLike[str]) -> Saved:
-    """Reads a file, and raises a ValueError unless it holds a possible run."""
-    with open(_npz(path), "rb") as file:
+def read(path: str | os.PathLike[str]) -> tuple[Saved, Optional[Rows]]:
+    """Reads a file, and raises a ValueError unless it holds a possible run. Only the save of a recording has `Rows`."""
+    with open(npz(path), "rb") as file:
         content = file.read(_MOST_BYTES)
     try:
-        return _checked(_arrays_of(content))
+        arrays = _arrays_of(content)
+        rows = {name: _number(arrays.pop(name), name) for name in Rows._fields if name in arrays}
+        return _checked(arrays), Rows(**rows) if rows else None
     except MemoryError:
         raise Fault(_MEMORY) from None
     except Exception as error:  # of a damaged file, zipfile and NumPy raise many kinds
@@ -85,7 +114,8 @@ def read(path: str | os.PathLike[str]) -> Saved:
 def _arrays_of(content: bytes) -> dict[str, NDArray[Any]]:
     """The arrays in the content of a file. Each is read to its end, where its CRC-32 is compared."""
     with zipfile.ZipFile(io.BytesIO(content)) as archive:
-        names = [field.name for field in fields(Saved)]
+        also = {f"{name}.npy" for name in Rows._fields} & {*archive.namelist()}
+        names = [*(field.name for field in fields(Saved)), *(name[:-4] for name in also)]
         return {name: _array_of(archive.open(f"{name}.npy").read(_MOST_BYTES)) for name in names}
 
 
@@ -121,7 +151,8 @@ def _number(array: NDArray[Any], name: str) -> int:
     return count_of(int(array), name)
 
 
-def _npz(path: str | os.PathLike[str]) -> Path:
+def npz(path: str | os.PathLike[str]) -> Path:
+    """The file that a name means, which may lack its `.npz`."""
     path = Path(path)
     if not path.name:
         raise IsADirectoryError(errno.EISDIR, os.strerror(errno.EISDIR), str(path))

@@ -8,12 +8,13 @@ from __future__ import annotations
 
 import ctypes
 import os
+from pathlib import Path
 from typing import Any, Callable, Iterator, Literal, NamedTuple, Optional, SupportsIndex, Tuple, overload
 
 import numpy as np
 from numpy.typing import ArrayLike, NDArray
 
-from . import _saves
+from . import _saves, recording
 from ._arrays import HasPile, Heights, count_of, heights_and_edge, new_array, seed_of, site_at, sites_at
 from ._handles import DriveHandle
 from ._library import call, call_at
@@ -275,6 +276,12 @@ class Drive(HasPile):
         """Whether the first and the last column are neighbours."""
         return self._cylinder
 
+    @property
+    def shape(self) -> tuple[int, int]:
+        """The height and the width of the grid."""
+        height, width = self._shape
+        return height, width
+
     @overload
     def drop(self, n: SupportsIndex, progress: bool = False, odometers: Literal[False] = False) -> NDArray[np.void]: ...
 
@@ -305,10 +312,11 @@ class Drive(HasPile):
         Returns
         -------
         table : numpy.ndarray
-            A structured array with a row for each drop: its `number` from 0 over all calls, its `site` (row * width +
-            column), the `size` (topplings), the `area` (sites that toppled), the `reach` (greatest distance from the
-            site to one that toppled, in columns plus rows) and the grains `lost`. A row has 48 bytes; `blocks` makes the
-            rows of a long run without having all in memory.
+            A structured array of shape (n,), with a row for each drop: its `number` from 0 over all calls, its `site` (row *
+            width + column), the `size` (topplings), the `area` (sites that toppled), the `reach` and the grains `lost`. The
+            reach is the greatest distance from the site to one that toppled, in columns plus rows, the shorter way around a
+            cylinder. It is 0 if no site toppled, and also if only the site of the drop did. A row has 48 bytes; `record` and
+            `blocks` make the rows of a long run without having all in memory.
         topplings : numpy.ndarray
             Only with `odometers`: how often each site topples in each avalanche; shape (n, height, width), int64.
 
@@ -334,11 +342,19 @@ class Drive(HasPile):
         """
         if odometers:
             return self._drop_with_odometers(n, progress)
+        return self._drop(self._at_random(n), progress, draws=True)
+
+    def _at_random(self, n: SupportsIndex) -> Callable[[], _Wanted]:
+        """Checks `n`, and makes so many drops at random sites."""
 
         def asked() -> _Wanted:
             return count_of(n, "n"), lambda begin, end, found: _drop(self._draw(end - begin), end - begin, found)
 
-        return self._drop(asked, progress, draws=True)
+        return asked
+
+    def _next_block(self, most: int) -> NDArray[np.void]:
+        """Makes a block of at most so many drops at random sites. Only under the lock for drops."""
+        return self._make_all(self._at_random(min(most, self._most)), False, True, self._most)
 
     def _drop_with_odometers(self, n: SupportsIndex, progress: bool) -> tuple[NDArray[np.void], Heights]:
         topplings: Heights = _NO_HEIGHTS
@@ -486,13 +502,16 @@ class Drive(HasPile):
     ) -> NDArray[np.void]:
         """Makes the drops that `ask` returns when it has checked the arguments, in blocks of at most `most` if it is given."""
         with self._handle.dropping():
-            n, called, table = self._begun(ask)
-            if progress:
-                with Bar(n) as bar:
-                    self._make(called, table, draws, most or self._most, bar.show)
-            else:
-                self._make(called, table, draws, most or self._most)
-            return self._state.table
+            return self._make_all(ask, progress, draws, most or self._most)
+
+    def _make_all(self, ask: Callable[[], _Wanted], progress: bool, draws: bool, most: int) -> NDArray[np.void]:
+        n, called, table = self._begun(ask)
+        if progress:
+            with Bar(n) as bar:
+                self._make(called, table, draws, most, bar.show)
+        else:
+            self._make(called, table, draws, most)
+        return self._state.table
 
     def _make(
         self,
@@ -627,11 +646,100 @@ class Drive(HasPile):
         ...     sandpile.Drive.load(os.path.join(folder, "run"))
         <Drive: 1 by 2, seed 7, stream 2, 0 drops>
         """
-        saved = _saves.read(path)
+        return cls._of(_saves.read(path)[0])
+
+    @classmethod
+    def _of(cls, saved: _saves.Saved) -> Drive:
         run = cls(saved.given(), saved.seed, saved.stream, bool(saved.cylinder))
         run._start_grains = saved.start_grains
         run._state = _State(saved.drops, saved.drawn, _NO_ROWS)
         return run
+
+    def _go_to(self, saved: _saves.Saved) -> None:
+        """Continues from a save of this run. Only under the lock for drops."""
+        if saved.drops == self.drops:
+            return
+        again, was = Drive._of(saved), self._handle
+        with was.use:
+            # Both locks stay, since other threads may wait for them. In one step, so Ctrl-C can come at any time.
+            again._handle.use, again._handle._dropping = was.use, was._dropping
+            vars(self).update({name: vars(again)[name] for name in (*_OF_THIS_PROCESS, "_state")})
+
+    def record(
+        self,
+        n: SupportsIndex,
+        rows: str | os.PathLike[str],
+        save: str | os.PathLike[str],
+        every: float = 10.0,
+        progress: bool = False,
+    ) -> NDArray[np.void]:
+        """Drops grains at the next random sites until a file has `n` rows of this run, with a save beside it.
+
+        If the same lines run again, the run goes on, whatever has ended it: Ctrl-C, an error, a kill or a power cut. The
+        file then has the same bytes as without. At most the work of `every` seconds is done again, and none after Ctrl-C or
+        an error of this module.
+
+        Parameters
+        ----------
+        n : int
+            The rows of the file at the end. With a greater one, the file of an ended recording grows.
+        rows : str or path
+            The file, made if it does not exist: the rows of the tables, 48 bytes each, one after another. So
+            ``numpy.fromfile(rows, sandpile.AVALANCHE)`` reads it, and `numpy.memmap` reads what is asked of it.
+        save : str or path
+            The file of the save, for `load`; `.npz` is added to a name without it. It also has the number of rows, and their
+            CRC-32.
+        every : float
+            The run is saved at most once in so many seconds, and at the end.
+        progress : bool
+            Whether to show the progress on standard error, as `drop` does.
+
+        Returns
+        -------
+        numpy.ndarray
+            The rows, shape (n,), read-only: those of the file, of which only what is used is read. `table` has the last block.
+
+        Raises
+        ------
+        Fault
+            Plan (15) if `n` is negative or the file has more rows, or `every` is negative, Full (6) as from `drop`, or
+            Memory (4).
+        ValueError
+            If the files do not fit the run: the save is of another run, or was not written by this call; or the file lacks
+            rows of the save, has others, or has rows without a save. Then nothing has changed.
+        TypeError
+            If `n` is not an integer, or `every` not a number.
+        RuntimeError
+            If another process or thread is recording to the file, or dropping grains on this run.
+        OSError
+            If a file cannot be read, locked or written. The next call goes on from the last save.
+
+        See Also
+        --------
+        blocks : the same rows, in parts
+
+        Notes
+        -----
+        From where the run is, the save must be ahead, or behind, by drops at random sites only. The run then goes there.
+
+        Examples
+        --------
+        >>> import os, sandpile, tempfile
+        >>> with tempfile.TemporaryDirectory() as folder:
+        ...     files = os.path.join(folder, "rows.bin"), os.path.join(folder, "run.npz")
+        ...     first = sandpile.Drive([[3, 3]], seed=7).record(100, *files)
+        ...     rows = sandpile.Drive([[3, 3]], seed=7).record(300, *files)
+        >>> len(rows), bool((rows == sandpile.Drive([[3, 3]], seed=7).drop(300)).all())
+        (300, True)
+        """
+        count, at, beside = count_of(n, "n"), Path(rows), _saves.npz(save)
+        if at.resolve() == beside.resolve():
+            raise ValueError(f"the rows and the save must be two files, but both are {at}")
+        if not every >= 0:
+            raise Fault(15, f"every is {every}, but must be 0 or more")
+        with self._handle.dropping():
+            recording.record(self, count, at, beside, every, progress)
+        return np.memmap(at, AVALANCHE, "r", shape=(count,)) if count else _NO_ROWS
 
     def __repr__(self) -> str:
         height, width = self._shape

@@ -33,7 +33,9 @@ class Recurrent(HasPile):
     ``a + b``, ``a - b``, ``-a``, ``n * a`` for any integer ``n``, and ``a == b`` are those of the group; `sum` adds several
     elements. They are hashable, and have no order. ``numpy.asarray(a)`` and ``a.pile`` are the heights, and
     ``a[row, column]`` is one of them. ``==`` and ``!=`` with an array compare site by site; any other operator with an array
-    is a `TypeError`. Only masked arrays do not ask: ``masked += a`` and ``masked < a`` use the heights.
+    is a `TypeError`. Only masked arrays do not ask: ``masked += a`` and ``masked < a`` use the heights. Nor do NumPy's own
+    functions: they take a list of elements for the stack of its heights, so ``numpy.mean([a, b], axis=0)`` is the mean
+    pile, and ``numpy.sum([a, b])`` is the number of grains, not the sum in the group.
 
     Parameters
     ----------

@@ -1,6 +1,7 @@
 """Runs in blocks of drops, which need little memory, and the topplings of each site in each avalanche."""
 
-import subprocess
+import itertools
+import linecache
 import sys
 import unittest
 from unittest import mock
@@ -10,8 +11,7 @@ import sandpile
 from sandpile import driving
 from test_live import equal
 from test_random import toppling_matrix
-from test_replicas import MODULE, soon
-from tools import new_folder, same
+from tools import same
 
 FULL = np.full((32, 32), 3)
 
@@ -47,31 +47,51 @@ class Blocks(unittest.TestCase):
             self.assertRaises(TypeError, run.blocks, *words)
 
 
-LONG = """
-import os, sandpile
-run = sandpile.Drive.load("run") if os.path.exists("run.npz") else sandpile.Drive([[3] * 32] * 32, seed=1)
-with open("rows", "ab") as file:
-    file.truncate(run.drops * sandpile.AVALANCHE.itemsize)
-    for table in run.blocks(100_000 - run.drops, 1000):
-        table.tofile(file)
-        file.flush()
-        run.save("run")
-"""
+def cell(run, rows, n):
+    """A cell of a notebook that gathers blocks, as the page has it."""
+    if rows[-1] is not run.table:
+        rows.append(run.table)
+    for table in run.blocks(n - run.drops, 30):
+        rows.append(table)
 
 
-class Killed(unittest.TestCase):
-    def test_a_run_that_was_killed_goes_on(self):
-        folder = new_folder(self)
-        rows, words, how = folder / "rows", [sys.executable, "-c", LONG], {"cwd": folder, "env": {"PYTHONPATH": MODULE}}
-        for least in (0, 10_000, 20_000, 30_000):
-            child = subprocess.Popen(words, **how)
-            self.assertTrue(soon(lambda: rows.exists() and rows.stat().st_size > least * sandpile.AVALANCHE.itemsize))
-            child.kill()
-            self.assertLess(child.wait(), 0)
-        subprocess.run(words, check=True, timeout=300, **how)
-        table = sandpile.Drive(FULL, seed=1).drop(100_000)
-        self.assertTrue(same(np.fromfile(rows, sandpile.AVALANCHE), table))
-        self.assertEqual(sandpile.Drive.load(folder / "run").drops, 100_000)
+def is_stopped_at(number, call):
+    """Whether Ctrl-C came during a call: at this step of it or of the module, of those where it can come."""
+    steps = itertools.count()
+
+    def trace(frame, event, _):
+        if frame.f_code is not cell.__code__ and frame.f_code.co_filename != driving.__file__:
+            return None
+        frame.f_trace_opcodes = frame.f_code is cell.__code__
+        is_with = linecache.getline(frame.f_code.co_filename, frame.f_lineno).lstrip().startswith("with ")  # it has its lock
+        if event in ("line", "opcode") and not is_with and next(steps) == number:
+            raise KeyboardInterrupt
+        return trace
+
+    before = sys.gettrace()
+    sys.settrace(trace)
+    try:
+        call()
+    except KeyboardInterrupt:
+        return True
+    finally:
+        sys.settrace(before)
+    return False
+
+
+class Cells(unittest.TestCase):
+    def test_one_that_is_stopped_and_run_again(self):
+        for number in itertools.count():
+            run, other = (sandpile.Drive(FULL, seed=5) for _ in range(2))
+            run._most = 20
+            rows = [run.drop(0)]
+            is_stopped = is_stopped_at(number, lambda: cell(run, rows, 100))
+            cell(run, rows, 100)
+            with self.subTest(number=number):
+                self.assertTrue(same(np.concatenate(rows), other.drop(100)))
+            if not is_stopped:
+                break
+        self.assertGreater(number, 200)
 
 
 class Odometers(unittest.TestCase):

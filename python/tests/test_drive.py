@@ -51,6 +51,21 @@ class Drops(unittest.TestCase):
         self.assertEqual(int(run.pile.sum()) + run.lost, int((FULL + 2).sum()) + 20_000)
         self.assertTrue((table["area"] <= table["size"]).all() and (table["reach"] < 64).all())
 
+    def test_the_reach_by_hand(self):
+        # Both ends of a row have 3 grains, so a grain at one topples the other too if they are neighbours.
+        for cylinder in (False, True):
+            start = np.zeros((1, 10), int)
+            start[0, [0, -1]] = 3
+            run = sandpile.Drive(start, cylinder=cylinder)
+            self.assertEqual([run.drop_at(site)["reach"][0] for site in (4, 4, 4, 4)], [0] * 4)  # only the last one topples
+            row, toppled = run.avalanche(0)
+            self.assertEqual((row["reach"], toppled.ravel().nonzero()[0].tolist()), (1, [0, 9]) if cylinder else (0, [0]))
+
+    def test_the_shape(self):
+        for shape in ((1, 1), (3, 5)):
+            run = sandpile.Drive(np.zeros(shape, int))
+            self.assertEqual((run.shape, {*map(type, run.shape)}), (shape, {int}))
+
     def test_given_sites_use_no_random_ones_up(self):
         one, other = sandpile.Drive(FULL, seed=3), sandpile.Drive(FULL, seed=3)
         first = one.drop(100)

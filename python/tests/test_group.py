@@ -63,6 +63,13 @@ class Sums(unittest.TestCase):
             self.assertEqual(sum([a, a], a), 3 * a)
             self.assertEqual(0 + a, a)
 
+    def test_numpy_takes_a_list_of_elements_for_their_heights(self):
+        a, b = sandpile.recurrent([[7, 1]]), sandpile.recurrent([[2, 9]])
+        heights = np.stack([a.pile, b.pile])
+        self.assertEqual(np.sum([a, b]), heights.sum())
+        self.assertEqual(np.mean([a, b], axis=0).tolist(), heights.mean(axis=0).tolist())
+        self.assertRaises(TypeError, np.add, a, b)
+
     def test_nothing_else_is_added(self):
         a = sandpile.identity((3, 4))
         for other in (1, 0.0, False, np.int64(0), np.uint8(0), "", None):

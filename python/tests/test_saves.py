@@ -1,5 +1,6 @@
 """Saved runs: files that are damaged or wrong are refused, and threads can save to one name."""
 
+import errno
 import io
 import os
 import random
@@ -190,6 +191,47 @@ class Full(unittest.TestCase):
         env = {**os.environ, "PYTHONPATH": str(Path(sandpile.__file__).parents[1])}
         said = ran(sys.executable, "-B", "-c", FULL, cwd=new_folder(self), env=env)
         self.assertEqual(said, "File too large ['run.npz'] [[3]]\n")
+
+
+class PowerCuts(unittest.TestCase):
+    def test_a_save_is_on_the_disk_before_it_takes_the_name(self):
+        path, calls = new_folder(self) / "run.npz", []
+
+        def noting(name, told):
+            real = getattr(os, name)
+
+            def call(*words):
+                result = real(*words)
+                calls.append((name, *told(*words)))
+                return result
+
+            return mock.patch.object(os, name, call)
+
+        def synced(number):
+            synced = Path(os.readlink(f"/proc/self/fd/{number}"))
+            return synced == path.parent, synced.stat().st_size
+
+        with noting("fsync", synced), noting("replace", lambda _, name: [Path(name)]):
+            run_of().save(path)
+        (_, is_folder, size), *rest = calls
+        self.assertEqual((is_folder, size), (False, path.stat().st_size))
+        self.assertEqual([call[:2] for call in rest], [("replace", path), ("fsync", True)])
+
+    def test_a_folder_that_cannot_be_synced(self):
+        real, path = os.fsync, new_folder(self) / "run.npz"
+        for number, is_refused in ((errno.EINVAL, False), (errno.EIO, True)):
+
+            def fsync(at):
+                if os.path.isdir(f"/proc/self/fd/{at}"):
+                    raise OSError(number, os.strerror(number))
+                real(at)
+
+            with mock.patch.object(os, "fsync", fsync):
+                if is_refused:
+                    self.assertRaisesRegex(OSError, os.strerror(number), run_of().save, path)
+                else:
+                    run_of().save(path)
+            self.assertEqual(values(sandpile.Drive.load(path)), values(run_of()))
 
 
 class Together(unittest.TestCase):

@@ -27,6 +27,7 @@ disallow_untyped_calls = False
 """
 
 RESULTS = """
+import pathlib
 from typing import Any
 import numpy as np
 import sandpile
@@ -87,6 +88,10 @@ assert_type(run.drop(5, progress=True, odometers=False), NDArray[np.void])
 assert_type(run.drop(5, odometers=run.lost > 9), Any)
 assert_type(next(run.blocks(np.int64(5), 2)), NDArray[np.void])
 assert_type(run.table, NDArray[np.void])
+assert_type(run.shape, tuple[int, int])
+assert_type(sandpile.identity(run.shape), sandpile.Recurrent)
+assert_type(run.record(np.int64(5), "rows.bin", "run.npz"), NDArray[np.void])
+assert_type(run.record(5, pathlib.Path("rows.bin"), pathlib.Path("run"), every=1, progress=True)["size"], NDArray[Any])
 run.save("run.npz")
 assert_type(sandpile.Drive.load("run.npz"), sandpile.Drive)
 
@@ -145,6 +150,9 @@ run.avalanche(1.5)
 run.avalanche(1, 2)
 run.drop(5, odometers=1.5)
 run.blocks(5)
+run.record(5, "rows.bin")
+run.record(1.5, "rows.bin", "run.npz")
+run.record(5, "rows.bin", "run.npz", every="1")
 sandpile.random_recurrent(5)
 sandpile.random_recurrent((6, 5), 1.5)
 sandpile.replicas((6, 5), 7, 3, 9)
