@@ -21,11 +21,9 @@ from numpy.typing import ArrayLike, NDArray
 from ._arrays import checked_edge, count_of, heights_and_edge, new_array, seed_of, shape_of
 from .driving import AVALANCHE, Drive
 from .progress import Bar
-from .stationary import random_recurrent
+from .stationary import drawn
 
 _MOST_STREAM = 2**63 - 1
-# Drops between two looks at whether the caller has stopped.
-_BLOCK = 8192
 
 #: The type of the rows of the tables of `replicas`, one row for each drop.
 REPLICA = np.dtype([("stream", "i8"), *AVALANCHE.descr])
@@ -40,9 +38,10 @@ _Start = Union[ArrayLike, Tuple[int, int], Callable[[int], ArrayLike]]
 class Replicas(Iterator[_Table]):
     """The tables of replicas, one for each stream, in the order of the streams.
 
-    `close` ends an iterator early: it cancels the replicas that have not begun, and waits for threads of its own, which
-    stop between two blocks of drops. An error, Ctrl-C or the end of the iterator does the same. Use an iterator, and close it,
-    in one thread at a time.
+    `close` ends an iterator early: it cancels the replicas that have not begun, ends those on threads, between two calls of
+    the library, and waits for threads of its own. An error, Ctrl-C or the end of the iterator does the same. Ctrl-C of a
+    terminal or a notebook also goes to the processes of a pool, and ends the replicas there. Use an iterator, and close it, in
+    one thread at a time.
 
     Attributes
     ----------
@@ -69,33 +68,47 @@ class _Plan:
     cylinder: bool | None
     seed: int
     drops: int
+    key: bytes  # no other plan has it
 
-    def run(self, stream: int) -> Drive:
+    def run(self, stream: int, go_on: Callable[[], None]) -> Drive:
         """A replica before its first drop."""
         start = self.start
         if callable(start):
             start = start(stream)
         elif isinstance(start, tuple):
             seed = np.random.SeedSequence(self.seed, spawn_key=(stream,))
-            start = random_recurrent(start, seed, bool(self.cylinder))
+            start = drawn(cast(Tuple[int, int], start), seed, bool(self.cylinder), go_on)
         return Drive(start, self.seed, stream, self.cylinder)
+
+
+# The keys of plans of which Ctrl-C has ended a replica in this process. A process of a pool goes on with the next replica, which
+# it may hold already, so that cannot be cancelled.
+_ended: set[bytes] = set()
 
 
 def _replica(plan: _Plan, stream: int, stop: threading.Event | None = None) -> _Table:
     """The table of a replica."""
-    _go_on(stop)
-    run, table = plan.run(stream), new_array(plan.drops, REPLICA, f"a table of {plan.drops} drops")
-    for block in run.blocks(plan.drops, _BLOCK):
+
+    def go_on() -> None:
+        """Ends a replica that nobody waits for."""
+        if plan.key in _ended or stop is not None and stop.is_set():
+            raise CancelledError
+
+    try:
+        go_on()
+        return _table(plan, stream, go_on)
+    except KeyboardInterrupt:
+        _ended.add(plan.key)
+        raise
+
+
+def _table(plan: _Plan, stream: int, go_on: Callable[[], None]) -> _Table:
+    run, table = plan.run(stream, go_on), new_array(plan.drops, REPLICA, f"a table of {plan.drops} drops")
+    for block in run.blocks(plan.drops, run._most):
         rows = table[run.drops - len(block) : run.drops]
         rows["stream"], rows[_AVALANCHE] = stream, block
-        _go_on(stop)
+        go_on()
     return table
-
-
-def _go_on(stop: threading.Event | None) -> None:
-    """Ends a replica that nobody waits for."""
-    if stop is not None and stop.is_set():
-        raise CancelledError
 
 
 # Python waits for all threads before it runs what `atexit` has. So that the program ends soon after an error or Ctrl-C while
@@ -181,12 +194,16 @@ def replicas(
     1 100 True
     2 100 True
     """
-    plan = _Plan(*_start_of(start, cylinder), seed_of(seed), count_of(drops, "drops"))
+    plan = _Plan(*_start_of(start, cylinder), seed_of(seed), count_of(drops, "drops"), os.urandom(16))
     executor, workers = _workers_of(executor)
     most = count_of(2 * workers if window is None else window, "window", least=1)
-    left = (count_of(stream, "stream", _MOST_STREAM) for stream in streams)
-    if executor is None:
-        tables = _in_threads(plan, left, most)
+    try:
+        given = iter(streams)
+    except TypeError:
+        raise TypeError(f"streams must be several integers, such as range(4), not {streams!r}") from None
+    left = (count_of(stream, "stream", _MOST_STREAM) for stream in given)
+    if executor is None or isinstance(executor, ThreadPoolExecutor):
+        tables = _in_threads(plan, left, most, executor)
     else:
         tables = _in_order(left, functools.partial(executor.submit, _replica, plan), most)
     if progress:
@@ -243,11 +260,12 @@ def _first(submitted: _Submitted) -> _Table:
     return table
 
 
-def _in_threads(plan: _Plan, streams: Iterator[int], window: int) -> _Tables:
-    """The tables of replicas on threads that end with this iterator."""
+def _in_threads(plan: _Plan, streams: Iterator[int], window: int, executor: ThreadPoolExecutor | None) -> _Tables:
+    """The tables of replicas on threads, which end with this iterator: on those given, or on new ones, which end, too."""
     stop = threading.Event()
     _stops.add(stop)
-    with ThreadPoolExecutor(os.cpu_count()) as threads:
+    with contextlib.ExitStack() as own:
+        threads = executor or own.enter_context(ThreadPoolExecutor(os.cpu_count()))
         try:
             yield from _in_order(streams, lambda stream: threads.submit(_replica, plan, stream, stop), window)
         finally:

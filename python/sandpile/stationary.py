@@ -23,7 +23,7 @@ the limit of grains. Then the distance is below 5e-11 on each grid.
 
 from __future__ import annotations
 
-from typing import Any, Sequence, SupportsIndex
+from typing import Any, Callable, Sequence, SupportsIndex
 
 import numpy as np
 
@@ -76,12 +76,23 @@ def random_recurrent(
     >>> sandpile.burn(start).is_recurrent, start == sandpile.random_recurrent((64, 64), seed=7)
     (True, True)
     """
-    (height, width), edge = shape_of(shape), checked_edge(cylinder)
+    return drawn(shape_of(shape), _checked_seed(seed), checked_edge(cylinder), lambda: None)
+
+
+def drawn(
+    shape: tuple[int, int], seed: np.random.SeedSequence | list[int] | None, edge: bool, go_on: Callable[[], None]
+) -> Recurrent:
+    """The pile of a checked seed. `go_on`, called before each call of the library, may raise an error."""
+    height, width = shape
     bits = _GRAIN_BITS - (height * width - 1).bit_length()
     # NumPy promises the same words of a seed for all its versions, but not the same `integers`.
-    words = np.random.PCG64(_checked_seed(seed)).random_raw(2 * height * width)
-    one, other = (words >> np.uint64(64 - bits)).reshape(2, height, width)
-    return recurrent(one, edge) + recurrent(other, edge)
+    words = np.random.PCG64(seed).random_raw(2 * height * width)
+    elements = []
+    for heights in (words >> np.uint64(64 - bits)).reshape(2, height, width):
+        go_on()
+        elements.append(recurrent(heights, edge))
+    go_on()
+    return elements[0] + elements[1]
 
 
 def _checked_seed(seed: Any) -> np.random.SeedSequence | list[int] | None:

@@ -20,7 +20,7 @@ from unittest import mock
 
 import numpy as np
 import sandpile
-from sandpile import replicating
+from sandpile import replicating, stationary
 from tools import needs, needs_module, new_folder, ran, same
 
 MODULE = str(Path(sandpile.__file__).parents[1])
@@ -101,16 +101,25 @@ def soon(is_true):
     return is_true()
 
 
-# A replica of so many drops takes minutes.
+# A replica of so many drops takes a minute.
 STOPPED = """
-import signal, threading, numpy as np, sandpile
-signal.signal(signal.SIGINT, signal.default_int_handler)  # it is ignored in what a shell starts in the background
-try:
-    print("begun", flush=True)
-    for table in sandpile.replicas((256, 256), 1, range(1000), 10**7, window=8):
-        pass
-except KeyboardInterrupt:
-    print("stopped,", threading.active_count(), "thread")
+import contextlib, pathlib, signal, sys, threading, sandpile
+from concurrent.futures import ProcessPoolExecutor, ThreadPoolExecutor
+from multiprocessing import get_context
+def processes(kind):
+    return ProcessPoolExecutor(2, get_context(kind))
+def start(stream):
+    pathlib.Path(f"begun-{stream}").touch()
+    return sandpile.random_recurrent((256, 256), stream)
+if __name__ == "__main__":
+    signal.signal(signal.SIGINT, signal.default_int_handler)  # it is ignored in what a shell starts in the background
+    pool = eval(sys.argv[1])
+    try:
+        with pool or contextlib.nullcontext():
+            for table in sandpile.replicas(start, 1, range(1000), 5 * 10**6, pool, window=8):
+                pass
+    except KeyboardInterrupt:
+        print("stopped,", threading.active_count(), "thread")
 """
 UNFINISHED = """
 import numpy as np, sandpile
@@ -161,11 +170,11 @@ class Tables(unittest.TestCase):
     def test_no_two_replicas_have_one_random_start(self):
         pairs, words = [(7, 1), (7, 2), (7 + 2**32, 0), (7 + 2**32, 1), (7, 2**32), (7, 2**32 + 1)], set()
 
-        def start(shape, seed, _):
+        def start(shape, seed, *_):
             words.add(tuple(seed.generate_state(8)))
             return np.zeros(shape, int)
 
-        with mock.patch.object(replicating, "random_recurrent", start):
+        with mock.patch.object(replicating, "drawn", start):
             for seed, stream in pairs:
                 next(sandpile.replicas((2, 2), seed, [stream], 1))
         self.assertEqual(len(words), len(pairs))
@@ -257,6 +266,10 @@ class Wrong(unittest.TestCase):
             with self.subTest(words=words, **more), self.assertRaises(TypeError):
                 sandpile.replicas(*words, **more)
 
+    def test_a_number_is_no_streams(self):
+        said = r"^streams must be several integers, such as range\(4\), not 4$"
+        self.assertRaisesRegex(TypeError, said, sandpile.replicas, (3, 3), 1, 4, 1)
+
     def test_a_stream_that_is_none(self):
         for stream, error in ((-1, sandpile.Fault), (2**63, sandpile.Fault), ("0", TypeError)):
             tables = sandpile.replicas((3, 3), 1, iter([0, stream]), 1, window=1)
@@ -332,17 +345,57 @@ class Ends(unittest.TestCase):
         self.assertEqual(set(threading.enumerate()), before)
         self.assertRaises(StopIteration, next, tables)
 
-    def test_ctrl_c(self):
+    def test_threads_end_at_their_next_call(self):
+        begun, go_on, here = [], threading.Event(), threading.local()
+        self.addCleanup(go_on.set)
+        element, real = sandpile.identity((3, 3)), replicating.drawn
+
+        def drawn(shape, seed, *words):
+            here.is_first = seed.spawn_key == (0,)
+            return real(shape, seed, *words)
+
+        def slow(*_):
+            if not here.is_first:
+                begun.append(1)
+                go_on.wait(60)
+            return element
+
+        patches = mock.patch.object(replicating, "drawn", drawn), mock.patch.object(stationary, "recurrent", slow)
+        with patches[0], patches[1], ThreadPoolExecutor(2) as pool:
+            for executor in (None, pool):
+                begun.clear()
+                go_on.clear()
+                tables = sandpile.replicas((3, 3), 1, itertools.count(), 5, executor)
+                self.assertEqual(len(next(tables)), 5)
+                self.assertTrue(soon(lambda: len(begun) > 1))
+                threading.Timer(0.1, go_on.set).start()
+                tables.close()
+                self.assertEqual([future.result() for future in [pool.submit(int) for _ in range(9)]], [0] * 9)
+                self.assertLessEqual(len(begun), os.cpu_count())  # no replica has made its second call
+
+    def stopped(self, script, *words, is_begun):
+        """What a program writes after Ctrl-C of a terminal, which each of its processes gets."""
         child = subprocess.Popen(
-            [sys.executable, "-c", STOPPED], stdout=subprocess.PIPE, stderr=subprocess.PIPE, text=True,
-            env={"PYTHONPATH": MODULE},
+            [sys.executable, script, *words], stdout=subprocess.PIPE, stderr=subprocess.PIPE, text=True,
+            env={"PYTHONPATH": MODULE}, start_new_session=True, cwd=script.parent,
         )
-        if child.stdout.readline() != "begun\n":
-            self.fail(child.communicate(timeout=120)[1])
-        time.sleep(0.3)
-        child.send_signal(signal.SIGINT)
-        text, errors = child.communicate(timeout=60)
-        self.assertEqual((text, child.returncode), ("stopped, 1 thread\n", 0), errors)
+        try:
+            self.assertTrue(soon(lambda: child.poll() is not None or is_begun()))
+            time.sleep(0.3)
+            os.killpg(child.pid, signal.SIGINT)
+            text, errors = child.communicate(timeout=20)
+            self.assertEqual((text, child.returncode), ("stopped, 1 thread\n", 0), errors)
+        finally:
+            with contextlib.suppress(ProcessLookupError):
+                os.killpg(child.pid, signal.SIGKILL)
+            child.communicate()
+
+    def test_ctrl_c(self):
+        for pool in ("None", "ThreadPoolExecutor(2)", "processes('fork')", "processes('spawn')"):
+            with self.subTest(pool):
+                script = new_folder(self) / "stopped.py"
+                script.write_text(STOPPED)
+                self.stopped(script, pool, is_begun=lambda: len(list(script.parent.glob("begun-*"))) > 1)
 
     def test_a_program_ends_while_there_is_an_iterator(self):
         ended = subprocess.run(
