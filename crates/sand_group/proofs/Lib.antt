@@ -4,6 +4,7 @@ pub mod SettledIsRecurrent
 pub mod RecurrentIsUnique
 pub mod OperationsSettle
 pub mod BurningDecides
+pub mod BurningSteps
 pub mod OperationsOnHeights
 pub mod EmptiedIsIdentity
 pub mod Multiples

@@ -48,7 +48,7 @@ impl Burned {
 }
 
 // For each site, the number of its neighbours: none has burnt yet.
-fn neighbour_counts(alloc: Global, lattice: &Lattice) -> Result<Vec<u8>, AllocError>
+pub(crate) fn neighbour_counts(alloc: Global, lattice: &Lattice) -> Result<Vec<u8>, AllocError>
     ensures len { IfOk result (λ v. length v.items ≡ sites lattice.now) }
     ensures counts { IfOk result (λ v. CountsUnburnt lattice.now [] (slice_index v.items)) }
 {
@@ -61,7 +61,11 @@ fn neighbour_counts(alloc: Global, lattice: &Lattice) -> Result<Vec<u8>, AllocEr
 }
 
 // The sites that may burn from the start, ascending, with capacity for all sites.
-fn first_to_burn(alloc: Global, heights: &[u64], unburnt: &[u8]) -> Result<Vec<usize>, AllocError>
+pub(crate) fn first_to_burn(
+    alloc: Global,
+    heights: &[u64],
+    unburnt: &[u8],
+) -> Result<Vec<usize>, AllocError>
     requires len { length unburnt.now ≡ length heights.now }
     ensures all { IfOk result (λ v. ListsBurning (length heights.now) heights.now unburnt.now v.items) }
     ensures room { IfOk result (λ v. length heights.now ≤ vec_capacity v) }
@@ -132,7 +136,42 @@ fn spread_fire(
     note_burnt_neighbour(heights, unburnt, burnt, south);
 }
 
-// Spreads the fire from the sites that may burn from the start, until no other may.
+// Burns the sites of the list from `start` on, and returns the length that the list then had. The sites of the next step
+// follow.
+pub(crate) fn burn_step(
+    lattice: &Lattice,
+    heights: &[u64],
+    unburnt: &mut Vec<u8>,
+    burnt: &mut Vec<usize>,
+    start: usize,
+) -> usize
+    requires heights_each { length heights.now ≡ sites lattice.now }
+    requires len { length unburnt.old.items ≡ sites lattice.now }
+    requires start { start ≤ vec_len burnt.old }
+    requires counts { CountsUnburnt lattice.now (take start burnt.old.items) (slice_index unburnt.old.items) }
+    requires all { ListsBurning (sites lattice.now) heights.now unburnt.old.items burnt.old.items }
+    requires room { sites lattice.now ≤ vec_capacity burnt.old }
+    requires in_turn { FireSpreadsFrom lattice.now (slice_index heights.now) [] (take start burnt.old.items) }
+    ensures end { result ≡ vec_len burnt.old }
+    ensures kept { take (vec_len burnt.old) burnt.new.items ≡ burnt.old.items }
+    ensures inside { vec_len burnt.old ≤ vec_len burnt.new }
+    ensures len { length unburnt.new.items ≡ sites lattice.now }
+    ensures counts { CountsUnburnt lattice.now burnt.old.items (slice_index unburnt.new.items) }
+    ensures all { ListsBurning (sites lattice.now) heights.now unburnt.new.items burnt.new.items }
+    ensures room { sites lattice.now ≤ vec_capacity burnt.new }
+    ensures in_turn { FireSpreadsFrom lattice.now (slice_index heights.now) [] burnt.old.items }
+{
+    let end = burnt.len();
+    let mut head = start;
+    while head < end {
+        let site = burnt[head];
+        spread_fire(lattice, heights, unburnt, burnt, site);
+        head += 1;
+    }
+    end
+}
+
+// Spreads the fire from the sites that may burn from the start, step by step, until no other may.
 fn burn_out(lattice: &Lattice, heights: &[u64], unburnt: &mut Vec<u8>, burnt: &mut Vec<usize>)
     requires heights_each { length heights.now ≡ sites lattice.now }
     requires len { length unburnt.old.items ≡ sites lattice.now }
@@ -146,9 +185,7 @@ fn burn_out(lattice: &Lattice, heights: &[u64], unburnt: &mut Vec<u8>, burnt: &m
 {
     let mut head = 0;
     while head < burnt.len() {
-        let site = burnt[head];
-        spread_fire(lattice, heights, unburnt, burnt, site);
-        head += 1;
+        head = burn_step(lattice, heights, unburnt, burnt, head);
     }
 }
 

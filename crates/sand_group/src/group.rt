@@ -40,6 +40,14 @@ impl Model for Recurrent {
 }
 
 impl Recurrent {
+    /// A pile that is known to be recurrent. Burns and copies nothing.
+    pub fn known(pile: Pile) -> Recurrent
+        requires { IsRecurrent pile.grid (height_of pile) }
+        ensures { result ≡ pile }
+    {
+        Recurrent { pile }
+    }
+
     /// A recurrent pile with the same heights. Returns Unstable if a height is over 3, NotRecurrent if a set is
     /// forbidden, and Memory if an allocation fails.
     pub fn from_pile(alloc: Global, pile: &Pile) -> Result<Recurrent, GroupFault>

@@ -1,11 +1,12 @@
 //! The burning test, and the group of recurrent piles.
 //!
 //! The definitions are in `specs/`: `Recurrence` (recurrent piles, burning orders, the greatest forbidden set), `Group`
-//! (sums, multiples, the identity, inverses, the recurrent pile of a class), `Burned` (what the burning test returns) and
-//! `Laws`. Proofs of other crates can rely on `laws`.
+//! (sums, multiples, the identity, inverses, the recurrent pile of a class), `Burned` (what the burning test returns),
+//! `BurningTimes` (the step in which each site burns) and `Laws`. Proofs of other crates can rely on `laws`.
 #![tactic(auto)]
 
 mod burning;
+mod burning_steps;
 mod doubling;
 mod equivalent;
 mod faults;
@@ -14,6 +15,7 @@ pub mod laws;
 mod neutral;
 
 pub use burning::{Burned, burn};
+pub use burning_steps::burning_times;
 pub use doubling::multiple;
 pub use equivalent::equivalent_recurrent;
 pub use faults::GroupFault;

@@ -1,0 +1,19 @@
+use Rattle.std.proofs.Common.{◌≡◌, ◌-◌, ◌≤◌, [], length, slice_index, take, vec_len, vec_capacity}
+use Rattle.sand_model.specs.Grid.{sites}
+use Rattle.sand_group.specs.Fire.{ListsBurning, FireSpreadsFrom, CountsUnburnt}
+use Rattle.sand_group.proofs.burning.burn_step.Given as goal
+
+abbrev pub invariant-loop-head : goal.invariant-loop-head
+invariant-loop-head l = record {
+  len : length l.unburnt.items ≡ sites l.lattice;
+  head : l.head ≤ l.end;
+  longer : l.end ≤ vec_len l.burnt;
+  kept : take l.end l.burnt.items ≡ l.initial.burnt.items;
+  counts : CountsUnburnt l.lattice (take l.head l.burnt.items) (slice_index l.unburnt.items);
+  all : ListsBurning (sites l.lattice) l.heights l.unburnt.items l.burnt.items;
+  room : sites l.lattice ≤ vec_capacity l.burnt;
+  in_turn : FireSpreadsFrom l.lattice (slice_index l.heights) [] (take l.head l.burnt.items);
+}
+
+abbrev pub decreases-loop-head : goal.decreases-loop-head
+decreases-loop-head l = l.end - l.head
