@@ -3,4 +3,4 @@
 
 mod streams;
 
-pub use streams::{SiteReader, sites_of, stream_of};
+pub use streams::{SiteReader, sites_of, stream_of, words_of};

@@ -28,6 +28,18 @@ pub fn stream_of(epoch: u32, dropper: u32) -> u64
     u64::from(epoch) * 64 + u64::from(dropper)
 }
 
+/// The words of the stream with this number, from place 0.
+#[tactic(auto, unfolding(crate::specs::Streams::key_of_seed))]
+pub fn words_of(seed: u64, stream: u64) -> ChaCha8Rng
+    ensures key { result.key ≡ key_of_seed seed }
+    ensures stream { result.stream ≡ stream }
+    ensures start { result.word_pos ≡ 0 }
+{
+    let mut words = ChaCha8Rng::from_seed(key_bytes(seed));
+    words.set_stream(stream);
+    words
+}
+
 /// A stream of drop sites, read one by one.
 #[derive(Drop)]
 pub struct SiteReader {
@@ -49,14 +61,11 @@ impl Model for SiteReader {
 
 impl SiteReader {
     /// The stream with this number, from place 0.
-    #[tactic(auto, unfolding(crate::specs::Streams::key_of_seed))]
     pub fn new(shape: Shape, seed: u64, stream: u64) -> SiteReader
         ensures { result ≡ record { sites = sites shape; seed = seed; stream = stream; read = 0 } }
     {
-        let mut words = ChaCha8Rng::from_seed(key_bytes(seed));
-        words.set_stream(stream);
         SiteReader {
-            words,
+            words: words_of(seed, stream),
             seed,
             sites: shape.sites() as u32,
         }
