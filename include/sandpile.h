@@ -8,8 +8,9 @@
    Functions that list faults return 0 or the number of a fault; after a fault, no array or number passed in has
    changed. Faults are listed in the order in which they are checked.
 
-   Pointers must not be null, even if the length is 0, and no two pointers of one call may point to the same memory. No
-   state is kept between calls, except behind handles (below): threads may call concurrently, on different arrays.
+   An array of length 0 may be null; all other pointers must not be. No two pointers of one call may point to the same
+   memory. No state is kept between calls, except behind handles (below): threads may call concurrently, on different
+   arrays.
 
    The library needs a processor of x86-64-v2, as most since 2009 are; on another one, a call ends the program by SIGILL.
 
@@ -83,12 +84,14 @@ typedef struct sandpile_avalanche {
     size_t site;    /* where the grain was dropped */
     uint64_t size;  /* topplings */
     uint32_t area;  /* sites that toppled */
-    uint32_t reach; /* greatest distance from the drop to a site that toppled, in columns plus rows; 0 if none did */
+    uint32_t reach; /* greatest distance from the drop to a site that toppled, in columns plus rows; 0 if none did. On a
+                       cylinder columns are counted the shorter way around */
     uint64_t lost;  /* grains that fell over the edge */
 } sandpile_avalanche;
 
 /* Settles a pile. Writes the settled heights, how often each site toppled, the grains lost and the number of topplings.
-   `heights_length` and `odometer_length` are width times height.
+   `heights_length` and `odometer_length` are width times height. The call needs about 80 bytes for each site, more on
+   narrow grids, and none if the pile is stable.
    SIDE, NARROW, LENGTH, TOO_MANY_GRAINS, MEMORY. */
 uint32_t sandpile_settle(size_t width, size_t height, bool cylinder, uint64_t *heights, size_t heights_length,
                          uint64_t *odometer, size_t odometer_length, uint64_t *lost, uint64_t *topplings);
@@ -96,7 +99,8 @@ uint32_t sandpile_settle(size_t width, size_t height, bool cylinder, uint64_t *h
 /* Settles several piles on grids of one shape. `heights` has all heights of the first pile, then those of the second, and so
    on. Writes for each pile what `sandpile_settle` writes. `lost_length` and `topplings_length` are the number of piles, which
    may be 0; `heights_length` and `odometer_length` are width times height times the number of piles. The limit is for each
-   pile alone; if one exceeds it, none is settled. The call needs 16 bytes for each site of each pile.
+   pile alone; if one exceeds it, none is settled. The call needs 16 bytes for each site of each pile, 16 bytes for each
+   pile, and what settling one of them needs.
    SIDE, NARROW, LENGTH, TOO_MANY_GRAINS, MEMORY. */
 uint32_t sandpile_settle_all(size_t width, size_t height, bool cylinder, uint64_t *heights, size_t heights_length,
                              uint64_t *odometer, size_t odometer_length, uint64_t *lost, size_t lost_length,
@@ -111,13 +115,14 @@ uint32_t sandpile_drop(size_t width, size_t height, bool cylinder, uint64_t *hei
                        sandpile_avalanche *avalanches, size_t avalanches_length);
 
 /* Writes `sites_length` sites of a stream of random drops, without the first `from` sites of the stream. A stream consists of
-   the 32-bit words of ChaCha8 under the seed, each modulo the number of sites. SIDE, NARROW. */
+   the 32-bit words of ChaCha8, each modulo the number of sites. The key is the seed's 8 bytes, the lowest first, and then 24
+   zeros; the 64-bit nonce is `stream`, and the 64-bit block counter begins with 0. SIDE, NARROW. */
 uint32_t sandpile_sites(size_t width, size_t height, bool cylinder, uint64_t seed, uint64_t stream, uint64_t from, size_t *sites,
                         size_t sites_length);
 
-/* Burns a stable pile. If it is recurrent, `found` becomes a burning order of all sites; if not, its first `count`
-   elements become the greatest forbidden set, ascending, and the others stay as they were. `heights_length` and
-   `found_length` are width times height.
+/* Burns a stable pile. If it is recurrent, `found` becomes a burning order of all sites, and `count` is their number; if not,
+   the first `count` elements of `found` become the greatest forbidden set, ascending, and the others stay as they were.
+   `heights_length` and `found_length` are width times height.
    SIDE, NARROW, LENGTH, TOO_MANY_GRAINS; then UNSTABLE or MEMORY. */
 uint32_t sandpile_burn(size_t width, size_t height, bool cylinder, const uint64_t *heights, size_t heights_length,
                        size_t *found, size_t found_length, size_t *count, bool *recurrent);
@@ -151,12 +156,14 @@ uint32_t sandpile_multiple(size_t width, size_t height, bool cylinder, uint64_t 
    used; a copy is not a second handle.
 
    Calls on one handle must not run at the same time, not even those that only read. Calls on different handles may, on any
-   threads, even if their passes share a pile. Pass a handle to another thread with something that orders memory: a lock, an
-   atomic with `memory_order_seq_cst`, or starting or joining a thread.
+   threads, even if their passes share a pile. Pass a handle to another thread by anything that makes the calls before happen
+   before the calls after: starting or joining a thread, a lock, a condition variable, a pipe, or an atomic that one thread
+   stores with `memory_order_release` and the other loads with `memory_order_acquire`.
 
    A fork copies what handles hold, like all memory. Parent and child go on independently: neither sees the other's drops. */
 
-/* A driven pile: settled, and settled again after each drop. */
+/* A driven pile: settled, and settled again after each drop. It takes about 42 bytes for each site, the sides rounded up
+   to multiples of 8. */
 typedef struct sandpile_drive {
     void *at;
 } sandpile_drive;
@@ -167,8 +174,9 @@ uint32_t sandpile_drive_new(size_t width, size_t height, bool cylinder, const ui
                             sandpile_drive *drive);
 
 /* Drops a grain at each site of `drops` in turn; each settles before the next. Writes an avalanche for each drop;
-   `avalanches_length` is `drops_length`. Several calls do the same as one call with all their drops. The grains of the start
-   and of all drops since may not exceed the limit (FULL), even if some are lost. EMPTY, LENGTH, NO_SITE, FULL, MEMORY. */
+   `avalanches_length` is `drops_length`. The call needs 32 bytes for each drop. Several calls do the same as one call
+   with all their drops. The grains of the start and of all drops since may not exceed the limit (FULL), even if some are
+   lost. EMPTY, LENGTH, NO_SITE, FULL, MEMORY. */
 uint32_t sandpile_drive_drop(sandpile_drive *drive, const size_t *drops, size_t drops_length, sandpile_avalanche *avalanches,
                              size_t avalanches_length);
 
@@ -234,15 +242,17 @@ uint32_t sandpile_pass_sweep(sandpile_pass *pass, uint64_t *topplings);
 uint32_t sandpile_pass_holding(sandpile_pass *pass, sandpile_holding *holding);
 
 /* Moves all that `other` holds to `pass`, and empties `other`. If both have rows, these must be adjacent (APART). Both must
-   be passes of one pile. A test refuses others with OTHER_PILE, but no proof rests on it: joins on the other pile at
-   the same moment could deceive it, and then the behaviour is undefined. EMPTY (either handle), OTHER_PILE, APART, MEMORY. */
+   be passes of one pile, and two of them. A test refuses others with OTHER_PILE, also a handle that is joined to itself or
+   to a copy of its struct. But no proof rests on the test: joins on the other pile at the same moment could deceive it, and
+   then the behaviour is undefined. EMPTY (either handle), OTHER_PILE, APART, MEMORY. */
 uint32_t sandpile_pass_join(sandpile_pass *pass, sandpile_pass *other);
 
 /* Settles what is left to topple, in memory of its own. Needs a pass with all rows and the whole quota, left or dropped,
    such as the first pass after all others have joined it. Writes the settled heights, how often each site toppled, the site
    of each drop by number, the number of topplings and the grains lost: what one thread gets that drops this history.
    `heights_length` and `odometer_length` are width times height; `history_length` is the number of drops made with the pass
-   (`drops` of its holding). The pile and the pass do not change, and may go on. EMPTY, LENGTH, MISSING, MEMORY. */
+   (`drops` of its holding). The pile and the pass do not change, and may go on. The call needs about 96 bytes for each site, more
+   on narrow grids, and 8 for each drop. EMPTY, LENGTH, MISSING, MEMORY. */
 uint32_t sandpile_pass_settle(sandpile_pass *pass, uint64_t *heights, size_t heights_length, uint64_t *odometer,
                               size_t odometer_length, size_t *history, size_t history_length, uint64_t *topplings,
                               uint64_t *lost);

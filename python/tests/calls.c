@@ -291,6 +291,49 @@ static void share_no_drops(void) {
     }
 }
 
+/* An array of length 0 may be null, as that of an empty std::vector. */
+static void null_arrays(void) {
+    uint64_t heights[3] = {5, 0, 0}, odometer[3] = {0}, number = 7, lost = 7, topplings = 7;
+    const uint64_t settled[3] = {1, 1, 0}, none[3] = {0};
+    sandpile_drive driven = {0};
+    sandpile_pass pass = {0};
+    assert(sandpile_settle_all(3, 1, false, NULL, 0, NULL, 0, NULL, 0, NULL, 0) == 0);
+    assert(sandpile_drop(3, 1, false, heights, 3, odometer, 3, NULL, 0, NULL, 0) == 0 && ARE_EQUAL(heights, settled));
+    assert(sandpile_sites(3, 1, false, 0, 0, 0, NULL, 0) == 0);
+    assert(sandpile_drive_new(3, 1, false, heights, 3, &driven) == 0);
+    assert(sandpile_drive_drop(&driven, NULL, 0, NULL, 0) == 0);
+    assert(sandpile_drive_read(&driven, NULL, 0, NULL, 0, &topplings, &lost) == 0 && topplings == 0 && lost == 0);
+    assert(sandpile_shared_new(3, 1, false, heights, 3, 0, &pass) == 0);
+    assert(sandpile_pass_drop(&pass, NULL, 0, &number) == 0);
+    assert(sandpile_pass_settle(&pass, heights, 3, odometer, 3, NULL, 0, &topplings, &lost) == 0);
+    assert(ARE_EQUAL(heights, settled) && ARE_EQUAL(odometer, none) && topplings == 0 && lost == 0);
+    sandpile_drive_free(&driven);
+    sandpile_pass_free(&pass);
+}
+
+/* Where an array has an element for each site, null and 0 are the wrong length. */
+static void null_piles(void) {
+    uint64_t heights[3] = {1, 1, 0}, lost, topplings;
+    size_t count;
+    bool recurrent;
+    sandpile_avalanche a;
+    sandpile_drive driven = {0};
+    sandpile_pass pass = {0};
+    assert(sandpile_settle(3, 1, false, NULL, 0, NULL, 0, &lost, &topplings) == SANDPILE_LENGTH);
+    assert(sandpile_drop(3, 1, false, NULL, 0, NULL, 0, NULL, 0, NULL, 0) == SANDPILE_LENGTH);
+    assert(sandpile_burn(3, 1, false, NULL, 0, NULL, 0, &count, &recurrent) == SANDPILE_LENGTH);
+    assert(sandpile_identity(3, 1, false, NULL, 0) == SANDPILE_LENGTH);
+    assert(sandpile_recurrent(3, 1, false, NULL, 0) == SANDPILE_LENGTH);
+    assert(sandpile_add(3, 1, false, NULL, 0, NULL, 0) == SANDPILE_LENGTH);
+    assert(sandpile_inverse(3, 1, false, NULL, 0) == SANDPILE_LENGTH);
+    assert(sandpile_multiple(3, 1, false, NULL, 0, 2) == SANDPILE_LENGTH);
+    assert(sandpile_drive_new(3, 1, false, NULL, 0, &driven) == SANDPILE_LENGTH && !driven.at);
+    assert(sandpile_drive_new(3, 1, false, heights, 3, &driven) == 0);
+    assert(sandpile_drive_avalanche(&driven, 0, &a, NULL, 0) == SANDPILE_LENGTH);
+    assert(sandpile_shared_new(3, 1, false, NULL, 0, 0, &pass) == SANDPILE_LENGTH && !pass.at);
+    sandpile_drive_free(&driven);
+}
+
 int main(void) {
     version();
     settle();
@@ -310,5 +353,7 @@ int main(void) {
     site();
     share();
     share_no_drops();
+    null_arrays();
+    null_piles();
     return 0;
 }

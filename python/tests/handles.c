@@ -4,6 +4,7 @@
      refuse       each allocation of each call fails in turn: nothing changes, and nothing is leaked
      churn        100,000 handles are filled and freed: memory does not grow
      misuse       faults in their order, and handles that stay as they are
+     strangers    joins of passes of two piles, while another thread makes joins on one of them
      avalanches   20,000 avalanches, one a call, between drops in lists, against a drive with all drops in lists
      fork         parent and child drop on copies of a drive and of a shared pile
 
@@ -416,6 +417,13 @@ static void misuse_a_pass(void) {
     OK(sandpile_shared_new(SIDE, SIDE, false, all, SITES, 3, &pass));
     OK(sandpile_shared_new(SIDE, SIDE, false, all, SITES, 3, &stranger));
     REFUSED(SANDPILE_OTHER_PILE, sandpile_pass_join(&pass, &stranger));
+    sandpile_pass copy = pass;
+    REFUSED(SANDPILE_OTHER_PILE, sandpile_pass_join(&pass, &pass));
+    REFUSED(SANDPILE_OTHER_PILE, sandpile_pass_join(&pass, &copy));
+    REFUSED(SANDPILE_EMPTY, sandpile_pass_join(&pass, &other));
+    REFUSED(SANDPILE_EMPTY, sandpile_pass_join(&other, &pass));
+    REFUSED(SANDPILE_EMPTY, sandpile_pass_join(&other, &other));
+    EXPECT(pass.at == copy.at && !other.at);
     REFUSED(SANDPILE_TAKEN, sandpile_pass_split(&pass, 4, &stranger));
     REFUSED(SANDPILE_TOO_MUCH, sandpile_pass_split(&pass, 4, &other));
     REFUSED(SANDPILE_ROWS, sandpile_pass_split_rows(&pass, 17, &other));
@@ -452,6 +460,38 @@ static void misuse(void) {
     misuse_a_pass();
     misuse_a_record();
     printf("misuse: %d calls refused, each with its fault\n", refused);
+}
+
+/* Strangers: `pass` and `other` are of two piles. Another thread joins passes of the second one without end. */
+
+enum { TRIES = 100000 };
+
+static atomic_bool is_over;
+
+static void *join_own(void *argument) {
+    sandpile_pass *own = argument, child = {0};
+    while (!atomic_load(&is_over)) {
+        OK(sandpile_pass_split(own, 0, &child));
+        OK(sandpile_pass_join(own, &child));
+    }
+    return NULL;
+}
+
+static void strangers(void) {
+    sandpile_pass own = {0};
+    pthread_t thread;
+    fill_with_threes();
+    OK(sandpile_shared_new(SIDE, SIDE, false, all, SITES, 3, &pass));
+    OK(sandpile_shared_new(SIDE, SIDE, false, all, SITES, 3, &own));
+    OK(sandpile_pass_split(&own, 1, &other));
+    EXPECT(!pthread_create(&thread, NULL, join_own, &own));
+    for (int i = 0; i < TRIES; i++) EXPECT(sandpile_pass_join(&pass, &other) == SANDPILE_OTHER_PILE);
+    atomic_store(&is_over, true);
+    EXPECT(!pthread_join(thread, NULL));
+    OK(sandpile_pass_join(&own, &other));
+    sandpile_pass_free(&own);
+    sandpile_pass_free(&pass);
+    printf("strangers: %d joins of two piles refused\n", TRIES);
 }
 
 /* Avalanches: `drive` makes them one by one, between drops in lists. `twin` makes all drops in lists, and its odometers before
@@ -598,6 +638,7 @@ int main(int count, char **words) {
         else if (!strcmp(words[i], "refuse")) refuse();
         else if (!strcmp(words[i], "churn")) churn();
         else if (!strcmp(words[i], "misuse")) misuse();
+        else if (!strcmp(words[i], "strangers")) strangers();
         else if (!strcmp(words[i], "avalanches")) avalanches();
         else if (!strcmp(words[i], "fork")) fork_once();
         else return 2;

@@ -68,6 +68,10 @@ class Handles(unittest.TestCase):
         self.one_line_from("misuse")
 
     @needs("cc")
+    def test_passes_of_two_piles_are_not_joined(self):
+        self.one_line_from("strangers")
+
+    @needs("cc")
     def test_avalanches_among_other_drops(self):
         self.one_line_from("avalanches")
 

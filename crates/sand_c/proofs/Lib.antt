@@ -2,6 +2,7 @@ pub mod Answered
 pub mod Chunks
 pub mod Found
 pub mod HandleSteps
+pub mod Joins
 pub mod Near
 pub mod Records
 pub mod Rows

@@ -1,5 +1,5 @@
 -- What the calls on a pass of a shared pile do.
-use Rattle.std.specs.Prelude.{ℕ, ◌≡◌, ◌+◌, ◌-◌, ◌<◌, ◌≤◌, ◌||◌, nat_lt, if◌then◌else◌, List, [], ◌++◌, take, drop, length, sum, Option, Some, Result, Ok, Err}
+use Rattle.std.specs.Prelude.{ℕ, ◌≡◌, ◌+◌, ◌-◌, ◌<◌, ◌≤◌, ◌⊎◌, ◌||◌, nat_lt, if◌then◌else◌, List, [], ◌++◌, take, drop, length, sum, Option, Some, Result, Ok, Err}
 use Rattle.sand_model.specs.Grid.{sites}
 use Rattle.sand_model.specs.Piles.{PileView, most_grains}
 use Rattle.sand_shared.specs.OpenPile.{grid_of_terms}
@@ -9,12 +9,12 @@ use Rattle.sand_shared.specs.Record.{RecordView, IsRecordOf}
 use Rattle.sand_shared.specs.Rows.{no_rows, count_of, upper_rows, lower_rows, rows_follow}
 use Rattle.sand_shared.specs.Sweeps.{Swept}
 use Rattle.sand_c.specs.OwnedPasses.{OwnedPassView, IsFirst}
-use Rattle.sand_c.specs.Arguments.{has_length, ◌>>=◌}
+use Rattle.sand_c.specs.Arguments.{has_length, Fails, ◌>>=◌}
 use Rattle.sand_c.specs.Dropping.{are_sites}
 use Rattle.sand_c.specs.Driving.{held_in, nothing_in}
 use Rattle.sand_c.specs.declared.holding.SandpileHolding.{SandpileHolding}
 use Rattle.sand_c.specs.declared.faults.Fault.{Fault}
-use Rattle.sand_c.specs.declared.faults.Fault.TheVariants.{TooManyGrains, NoSite, Spent, TooMuch, Rows, Apart, Missing, Memory}
+use Rattle.sand_c.specs.declared.faults.Fault.TheVariants.{TooManyGrains, NoSite, Spent, TooMuch, Rows, Apart, Missing, Memory, OtherPile}
 
 -- What a pass may do
 
@@ -137,9 +137,9 @@ splitting_of held child quota = nothing_in child >>= λ _. held_in held >>= λ v
 abbrev pub splitting_rows_of : Option OwnedPassView → Option OwnedPassView → ℕ → Result OwnedPassView Fault
 splitting_rows_of held child k = nothing_in child >>= λ _. held_in held >>= λ v. rows_of v k
 
--- the pass in the first handle, if it can take over that in the other
-abbrev pub joining_of : Option OwnedPassView → Option OwnedPassView → Result OwnedPassView Fault
-joining_of held other = held_in held >>= λ v. held_in other >>= λ w. are_together v w
+-- the passes in two handles
+abbrev pub both_in : Option OwnedPassView → Option OwnedPassView → Result (OwnedPassView × OwnedPassView) Fault
+both_in held other = held_in held >>= λ v. held_in other >>= λ w. Ok (v, w)
 
 -- the pass in the handle, if arrays of these lengths suit its pile and its drops
 abbrev pub recording_of : Option OwnedPassView → ℕ → ℕ → ℕ → Result OwnedPassView Fault
@@ -149,6 +149,11 @@ recording_of held heights odometer history = held_in held >>= λ v. record_to v 
 abbrev pub RecordFails : Fault → Result OwnedPassView Fault → Type 0
 RecordFails fault (Err e) = fault ≡ e
 RecordFails fault (Ok v) = whole_of v fault
+
+-- a join fails: a handle is empty; or both passes are said to be of two piles, or are apart, or memory runs out
+abbrev pub JoinFails : Fault → Result (OwnedPassView × OwnedPassView) Fault → Type 0
+JoinFails fault (Err e) = fault ≡ e
+JoinFails fault (Ok (v, w)) = (fault ≡ OtherPile) ⊎ Fails fault (are_together v w)
 
 -- a call gives part of what a handle held to another
 pub record GivesAway (old : Option OwnedPassView) (Step : OwnedPassView → OwnedPassView → OwnedPassView → Type 0)

@@ -25,11 +25,13 @@ use std::sync::atomic::Ordering::SeqCst;
 // How often `is_of_pile` looks. Joins of passes of the other pile can deceive it only if one happens during each look.
 const LOOKS: u32 = 64;
 
-/// A pass, a share of its pile, counters for its lists of drops, and a number that all passes of its pile share.
+/// A pass, a share of its pile, counters for its lists of drops, a number that all passes of its pile share, and a number
+/// of its own.
 #[derive(Drop)]
 pub struct OwnedPass {
     pile: Arc<SharedPile>,
     mark: Arc<AtomicU64>,
+    own: AtomicU64,
     pass: Pass,
     counts: SiteCounts,
     shape: Shape,
@@ -72,6 +74,7 @@ impl OwnedPass {
         Ok(OwnedPass {
             pile,
             mark,
+            own: AtomicU64::new(0),
             pass,
             counts,
             shape,
@@ -123,6 +126,7 @@ impl OwnedPass {
         let owned = OwnedPass {
             pile,
             mark,
+            own: AtomicU64::new(0),
             pass,
             counts,
             shape,
@@ -194,6 +198,12 @@ impl OwnedPass {
             }
         }
         true
+    }
+
+    /// Adds to the pass's own number, and returns what it was. So two handles can be asked whether they hold the same pass,
+    /// which no contract can say.
+    pub(crate) fn count(&self, more: u64) -> u64 {
+        self.own.fetch_add(more, SeqCst)
     }
 
     /// Joins another pass of the pile to this one, and leaves a pass with nothing in its place.

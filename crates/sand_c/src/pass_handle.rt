@@ -62,8 +62,9 @@ impl SandpilePass {
         }
     }
 
-    /// Makes it hold this, in place of what it held.
+    /// Makes it hold this. It must be empty: what it held would be neither freed nor reached any more.
     pub(crate) fn put(&mut self, held: Box<OwnedPass>)
+        requires { self.old.held ≡ None }
         ensures { self.new.held ≡ Some held.value }
     {
         *self = SandpilePass::of_parts(Parts::of(held));

@@ -2,10 +2,10 @@
 //!
 //! Each call takes the pass out of its handle, works on it, and puts it back.
 
-ghost use Rattle.std.specs.Prelude.{◌≡◌, ◌≢◌, ◌⊎◌, IfOk, IfErr, OnOk, IsOk, None, length};
+ghost use Rattle.std.specs.Prelude.{◌≡◌, ◌≢◌, IfOk, IfErr, MatchOption, OnOk, IsOk, None, length};
 ghost use Rattle.sand_c.specs.Arguments.{sides_of, pile_of, Fails, Answers, Returns, IsAnswer};
 ghost use Rattle.sand_c.specs.Driving.{Holds, LeadsTo, held_in};
-ghost use Rattle.sand_c.specs.Passing.{IsFirstOf, HaveDropped, HasCounted, HasSwept, GivesAway, AreSplit, AreSplitByRows, TakesOver, AreOfOnePile, IsHolding, IsRecordTo, RecordFails, with_quota_of, sharing_of, dropping_by, splitting_of, splitting_rows_of, joining_of, recording_of};
+ghost use Rattle.sand_c.specs.Passing.{IsFirstOf, HaveDropped, HasCounted, HasSwept, GivesAway, AreSplit, AreSplitByRows, TakesOver, AreOfOnePile, IsHolding, IsRecordTo, RecordFails, JoinFails, with_quota_of, sharing_of, dropping_by, splitting_of, splitting_rows_of, both_in, recording_of};
 
 use crate::arguments::{Sides, grains_of, grid_of, sides_of};
 use crate::faults::Fault;
@@ -233,9 +233,20 @@ pub extern "C" fn sandpile_pass_split_rows(
     }
 }
 
+// The own number of the pass in a handle, to which this is added; or `None`, if the handle is empty.
+fn count_in(alloc: Global, pass: &mut SandpilePass, more: u64) -> Option<u64>
+    ensures counted { MatchOption result (pass.old.held ≡ None) (λ _. IsOk (held_in pass.old.held)) }
+    ensures unchanged { pass.new.held ≡ pass.old.held }
+{
+    let held = pass.take(alloc)?;
+    let count = held.count(more);
+    pass.put(held);
+    Some(count)
+}
+
 /// Joins another pass of the same pile to a pass, and empties the other handle. Returns 0, or the first of 26 (Empty),
 /// 27 (OtherPile) and 12 (Apart), or 4 (Memory). The caller ensures that both passes are of one pile; a test refuses
-/// others (OtherPile), and no proof relies on it.
+/// others, and a pass that is to be joined to itself (OtherPile), and no proof relies on it.
 #[unsafe(no_mangle)]
 pub extern "C" fn sandpile_pass_join(
     alloc: Global,
@@ -245,11 +256,20 @@ pub extern "C" fn sandpile_pass_join(
     requires { AreOfOnePile pass.old.held other.old.held }
     ensures joined { result ≡ 0 → TakesOver pass.old.held other.old.held pass.new.held }
     ensures emptied { result ≡ 0 → other.new.held ≡ None }
-    ensures answer { IsAnswer result
-        (λ e. (e ≡ Fault.OtherPile) ⊎ Fails e (joining_of pass.old.held other.old.held)) }
+    ensures answer { IsAnswer result (λ e. JoinFails e (both_in pass.old.held other.old.held)) }
     ensures pass { result ≢ 0 → pass.new.held ≡ pass.old.held }
     ensures other { result ≢ 0 → other.new.held ≡ other.old.held }
 {
+    let Some(before) = count_in(alloc, pass, 0) else {
+        return Fault::Empty.number();
+    };
+    let Some(_others) = count_in(alloc, other, 1) else {
+        return Fault::Empty.number();
+    };
+    // If both handles hold one pass, its number has risen.
+    if count_in(alloc, pass, 0) != Some(before) {
+        return Fault::OtherPile.number();
+    }
     let Some(mut held) = pass.take(alloc) else {
         return Fault::Empty.number();
     };
