@@ -675,9 +675,9 @@ class Drive(HasPile):
     ) -> NDArray[np.void]:
         """Drops grains at the next random sites until a file has `n` rows of this run, with a save beside it.
 
-        If the same lines run again, the run goes on, whatever has ended it: Ctrl-C, an error, a kill or a power cut. The
-        file then has the same bytes as without. At most the work of `every` seconds is done again, and none after Ctrl-C or
-        an error of this module.
+        If the same lines run again, the run goes on, whatever has ended it: Ctrl-C, an error, a kill or a power cut. In the
+        end the file has the same bytes as if nothing had. At most the drops of the last `every` seconds are made again; after
+        Ctrl-C, none.
 
         Parameters
         ----------
@@ -688,9 +688,9 @@ class Drive(HasPile):
             ``numpy.fromfile(rows, sandpile.AVALANCHE)`` reads it, and `numpy.memmap` reads what is asked of it.
         save : str or path
             The file of the save, for `load`; `.npz` is added to a name without it. It also has the number of rows, and their
-            CRC-32.
+            CRC-32. Before it is written, the rows are on the disk.
         every : float
-            The run is saved at most once in so many seconds, and at the end.
+            Seconds from one save to the next, at least; 0 saves after each block of drops. The run is also saved at the end.
         progress : bool
             Whether to show the progress on standard error, as `drop` does.
 
@@ -705,8 +705,8 @@ class Drive(HasPile):
             Plan (15) if `n` is negative or the file has more rows, or `every` is negative, Full (6) as from `drop`, or
             Memory (4).
         ValueError
-            If the files do not fit the run: the save is of another run, or was not written by this call; or the file lacks
-            rows of the save, has others, or has rows without a save. Then nothing has changed.
+            If the files do not fit the run: the save is damaged, of another run, or not from this call; or the file lacks
+            rows that the save tells of, has others, or has rows but no save. Then nothing has changed.
         TypeError
             If `n` is not an integer, or `every` not a number.
         RuntimeError
@@ -720,7 +720,8 @@ class Drive(HasPile):
 
         Notes
         -----
-        From where the run is, the save must be ahead, or behind, by drops at random sites only. The run then goes there.
+        If there is a save, the run goes to where the save is, before or after. The drops between must all be at random sites.
+        The rows of the save are read first, to compare their CRC-32, in about a second for a gigabyte.
 
         Examples
         --------

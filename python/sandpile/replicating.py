@@ -104,6 +104,7 @@ def _replica(plan: _Plan, stream: int, stop: threading.Event | None = None) -> _
 
 def _table(plan: _Plan, stream: int, go_on: Callable[[], None]) -> _Table:
     run, table = plan.run(stream, go_on), new_array(plan.drops, REPLICA, f"a table of {plan.drops} drops")
+    go_on()
     for block in run.blocks(plan.drops, run._most):
         rows = table[run.drops - len(block) : run.drops]
         rows["stream"], rows[_AVALANCHE] = stream, block

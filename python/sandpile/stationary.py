@@ -29,6 +29,7 @@ import numpy as np
 
 from ._arrays import checked_edge, index_of, shape_of
 from .group import _GRAIN_BITS, Recurrent, recurrent
+from .settling import settle
 
 
 def random_recurrent(
@@ -82,17 +83,18 @@ def random_recurrent(
 def drawn(
     shape: tuple[int, int], seed: np.random.SeedSequence | list[int] | None, edge: bool, go_on: Callable[[], None]
 ) -> Recurrent:
-    """The pile of a checked seed. `go_on`, called before each call of the library, may raise an error."""
+    """The pile of a checked seed. The element of a sum of piles, settled or not, is the sum of their elements. `go_on`, called before
+    each call of the library, may raise an error."""
     height, width = shape
     bits = _GRAIN_BITS - (height * width - 1).bit_length()
     # NumPy promises the same words of a seed for all its versions, but not the same `integers`.
     words = np.random.PCG64(seed).random_raw(2 * height * width)
-    elements = []
+    total = np.zeros(shape, np.int64)
     for heights in (words >> np.uint64(64 - bits)).reshape(2, height, width):
         go_on()
-        elements.append(recurrent(heights, edge))
+        total += settle(heights, edge).pile
     go_on()
-    return elements[0] + elements[1]
+    return recurrent(total, edge)
 
 
 def _checked_seed(seed: Any) -> np.random.SeedSequence | list[int] | None:

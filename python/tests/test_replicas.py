@@ -348,19 +348,19 @@ class Ends(unittest.TestCase):
     def test_threads_end_at_their_next_call(self):
         begun, go_on, here = [], threading.Event(), threading.local()
         self.addCleanup(go_on.set)
-        element, real = sandpile.identity((3, 3)), replicating.drawn
+        real, settle = replicating.drawn, sandpile.settle
 
         def drawn(shape, seed, *words):
             here.is_first = seed.spawn_key == (0,)
             return real(shape, seed, *words)
 
-        def slow(*_):
+        def slow(*words):
             if not here.is_first:
                 begun.append(1)
                 go_on.wait(60)
-            return element
+            return settle(*words)
 
-        patches = mock.patch.object(replicating, "drawn", drawn), mock.patch.object(stationary, "recurrent", slow)
+        patches = mock.patch.object(replicating, "drawn", drawn), mock.patch.object(stationary, "settle", slow)
         with patches[0], patches[1], ThreadPoolExecutor(2) as pool:
             for executor in (None, pool):
                 begun.clear()
