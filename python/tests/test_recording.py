@@ -279,19 +279,22 @@ class Ended(InFolder):
             with self.subTest({name: len(content) for name, content in state}):
                 self.check(200)
 
-    def test_ctrl_c_loses_no_row(self):
+    def test_ctrl_c_and_a_lack_of_memory_lose_no_row(self):
         drop = _library.library.sandpile_drive_drop
-        for number in range(1, 8):
+        for error, number in itertools.product((KeyboardInterrupt, sandpile.Fault), range(1, 7)):
             run, made = new_run(drops_in_block=20), []
 
             def come(*words):
+                if error is sandpile.Fault and len(made) == number:
+                    return 4
                 made.append(drop(*words))
-                if len(made) == number:
-                    raise KeyboardInterrupt
+                if error is KeyboardInterrupt and len(made) == number:
+                    raise error
                 return made[-1]
 
-            with self.subTest(number=number), mock.patch.object(_library.library, "sandpile_drive_drop", come):
-                self.assertRaises(KeyboardInterrupt, run.record, 150, *FILES, every=3600)
+            with self.subTest(error=error, number=number):
+                with mock.patch.object(_library.library, "sandpile_drive_drop", come):
+                    self.assertRaises(error, run.record, 150, *FILES, every=3600)
                 self.assertEqual((run.drops, sandpile.Drive.load(FILES[1]).drops), (7 + 20 * number,) * 2)
                 self.assertTrue(same(np.fromfile(FILES[0], sandpile.AVALANCHE), expected(20 * number)))
             self.check(150, run)
@@ -379,15 +382,15 @@ class Refused(InFolder):
         self.refused("are not those that run.npz tells of")
 
     def test_another_run(self):
-        begun = np.arange(256).reshape(16, 16) % 4
+        moved = FULL.copy()  # a grain, so there are as many
+        moved[0, :2] += (1, -1)
         for run, said in (
             (sandpile.Drive(FULL, seed=2), "its seed is 1, not 2"),
             (sandpile.Drive(FULL, seed=1, stream=3), "its stream is 0, not 3"),
             (sandpile.Drive(FULL, seed=1, cylinder=True), "its cylinder is False, not True"),
             (sandpile.Drive(FULL[1:], seed=1), r"its shape is \(16, 16\), not \(15, 16\)"),
             (sandpile.Drive(FULL + 1, seed=1), "it began on another pile, or had other drops"),
-            (sandpile.Drive(begun, seed=1), "it began on another pile, or had other drops"),
-            (sandpile.Drive(begun[::-1], seed=1), "it began on another pile, or had other drops"),
+            (sandpile.Drive(moved, seed=1), "it began on another pile, or had other drops"),
         ):
             self.refused(f"^run.npz is of another run: {said}$", run)
         for drops in (0, 300):  # before the save, and after it
