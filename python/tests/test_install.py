@@ -31,6 +31,19 @@ def copied(folder):
     shutil.copy2(TOP / "crates.txt", folder)
 
 
+def in_cmake(version):
+    """A project of CMake with a program for each of the two libraries."""
+    return f"""
+cmake_minimum_required(VERSION 3.13)
+project(tried C)
+find_package(sandpile {version} REQUIRED)
+add_executable(shared settle.c)
+target_link_libraries(shared sandpile::sandpile)
+add_executable(alone settle.c)
+target_link_libraries(alone sandpile::static)
+"""
+
+
 class ByPip(unittest.TestCase):
     @needs_module("pip")
     def test_pip_carries_the_library_along(self):
@@ -231,7 +244,7 @@ class ByInstall(unittest.TestCase):
             self.log.write_text("")
             said, lines = self.installed(self.prefix, LIBDIR=libdir)
             with self.subTest(libdir):
-                names = ("libsandpile.so.1", "libsandpile.so", "libsandpile.a", "pkgconfig/sandpile.pc")
+                names = ("libsandpile.so.1", "libsandpile.so", "libsandpile.a", "pkgconfig/sandpile.pc", "cmake/sandpile/sandpile-config.cmake")
                 self.assertEqual({str(place / name) for name in names} - said, set())
                 self.assertEqual(set(self.folder.rglob("*.pc")), {place / "pkgconfig/sandpile.pc"})
                 module = self.prefix / "lib/python3/site-packages/sandpile"
@@ -255,6 +268,29 @@ class ByInstall(unittest.TestCase):
         shutil.rmtree(self.prefix)
         for name in ways:
             self.assertIn("257 wide: ", ran(self.folder / name))
+
+    @needs("cc", "cmake", "make")
+    def test_cmake_finds_the_library(self):
+        project = self.folder / "a project"
+        project.mkdir()
+        shutil.copy2(TOP / "examples" / "settle.c", project)
+        for libdir in ("lib", str(self.folder / "else where" / "lib")):
+            self.installed(self.prefix, LIBDIR=libdir)
+            folder = self.prefix / libdir / "cmake/sandpile"
+            with self.subTest(libdir):
+                (project / "CMakeLists.txt").write_text(in_cmake("1.0"))
+                words = ["cmake", "-S", project, "-B", project / "built", f"-Dsandpile_DIR={folder}"]
+                ran(*([*words[:-1], f"-DCMAKE_PREFIX_PATH={self.prefix}"] if libdir == "lib" else words))
+                ran("cmake", "--build", project / "built")
+                for name in ("shared", "alone"):
+                    self.assertIn("257 wide: ", ran(project / "built" / name))
+                shutil.rmtree(project / "built")
+                for version in ("0.9", "1.1", "2.0"):
+                    (project / "CMakeLists.txt").write_text(in_cmake(version))
+                    with self.assertRaises(AssertionError) as caught:
+                        ran(*words)
+                    self.assertIn("sandpile-config.cmake, version: 1.0.0", str(caught.exception))
+                    shutil.rmtree(project / "built")
 
     @needs_module("venv")
     def test_an_active_environment_has_the_module(self):
