@@ -163,6 +163,7 @@ def new_run_of(n, seed):
 class Records(InFolder):
     def test_the_rows_of_a_run(self):
         rows = new_run().record(30_000, *FILES)
+        self.assertEqual(sandpile.Drive.load(FILES[1]).drops, 30_007)
         self.assertTrue(same(np.asarray(rows), expected(30_000)))
         self.assertFalse(rows.flags.writeable)
         self.assertTrue(same(np.fromfile(FILES[0], sandpile.AVALANCHE), expected(30_000)))
