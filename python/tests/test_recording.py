@@ -204,6 +204,7 @@ class Records(InFolder):
             self.assertEqual(len(calls), saves)
 
     def test_other_calls_meanwhile(self):
+        new_run().record(100, *FILES)  # from which the run goes on
         run, drops = new_run(drops_in_block=50), []
         recording = threading.Thread(target=run.record, args=(60_000, *FILES), kwargs={"every": 0.01})
         recording.start()
