@@ -21,3 +21,4 @@ pub mod OnPiles
 pub mod WrittenBack
 pub mod HeightsWritten
 pub mod DropsInto
+pub mod Eights

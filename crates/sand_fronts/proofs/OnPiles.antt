@@ -1,5 +1,5 @@
 -- The result of a drop on a pile on tiles, as its contracts see it.
-use Rattle.std.proofs.Common.{ℕ, ltb, ◌≡◌, ◌+◌, ◌-◌, ◌*◌, ◌^◌, ◌<◌, ◌≤◌, refl, sym, ◌∙◌, ap, subst, arith}
+use Rattle.std.proofs.Common.{ℕ, length, ltb, ◌≡◌, ◌+◌, ◌-◌, ◌*◌, ◌<◌, ◌≤◌, refl, sym, ◌∙◌, ap, subst, arith}
 use Rattle.std.specs.Prelude.{slice_index}
 use Rattle.std.proofs.lemmas.Bool.Decides.{nat_tests}
 use Rattle.sand_model.specs.Grid.{Grid, sites, missing}
@@ -19,9 +19,12 @@ use Rattle.sand_fronts.specs.Waves.{AreAllOpen}
 use Rattle.sand_fronts.specs.Drops.{heights_on, counted_on}
 use Rattle.sand_fronts.specs.Avalanches.{IsAvalanche, has_toppled}
 use Rattle.sand_fronts.specs.Boards.{free_of, tiles_of, counts_of, marks_of, grown, IsBoard, IsSand, AreCounts, CountsSites, HasSettled}
+use Rattle.sand_fronts.specs.declared.reach.Spot.{Spot}
+use Rattle.sand_fronts.specs.Reading.{IsFirstOfEight}
 use Rattle.sand_fronts.specs.TiledPiles.{TiledView, IsTiledPile, IsTiledView, tiled_view, by_site, toppled_between}
-use Rattle.sand_fronts.proofs.OnTiles.{place_below}
-use Rattle.sand_fronts.proofs.NewPiles.{by_site_at, by_site_le, by_site_view, few_at_sites}
+use Rattle.sand_fronts.proofs.OnTiles.{height_low, place_below}
+use Rattle.sand_fronts.proofs.Eights.{eight_there, first_inside}
+use Rattle.sand_fronts.proofs.NewPiles.{by_site_at, by_site_le, by_site_long, by_site_view, few_at_sites}
 
 pub avalanche_same : (g : Grid) (site : ℕ) (u v : ℕ → ℕ) (a : Avalanche)
     → ((j : ℕ) → j < sites g → u j ≡ v j) → IsAvalanche g site u a
@@ -87,11 +90,11 @@ dropped {g} {i} {site} s {t} {c} {d} {v} {a} view shape has is =
       avalanche = avalanche_same g site (grown g c d) moved a between is;
     }))
 
-pub few_now : (g : Grid) (s : Sand) (c : Counts) → CountsSites g c
-    → ((j : ℕ) → j < sites g → slice_index (tiled_view g s c).times j < 2 ^ 60) → (m p : ℕ) → p < 64
-    → counted (counts_of c m) p < 2 ^ 60
-few_now g s c counts few m p low =
-    let most = few_at_sites g (counts_of c) (2 ^ 60 - 1) counts
+pub few_now : (n : ℕ) (g : Grid) (s : Sand) (c : Counts) → 0 < n → CountsSites g c
+    → ((j : ℕ) → j < sites g → slice_index (tiled_view g s c).times j < n) → (m p : ℕ) → p < 64
+    → counted (counts_of c m) p < n
+few_now n g s c some counts few m p low =
+    let most = few_at_sites g (counts_of c) (n - 1) counts
     (λ j l. omega (arith, by_site_at g (counted_on g (counts_of c)) j l, few j l)) m p low in
     omega arith
 
@@ -109,3 +112,30 @@ site_seen g s c {k = k} {p} x y view inside tile place = subst (λ (v : TiledVie
     let h = by_site_at g (heights_on g (tiles_of s)) (y * g.width + x) l in
     let n = by_site_at g (counted_on g (counts_of c)) (y * g.width + x) l in
     rw (tile, place) (sym h, sym n)) inside
+
+-- the same of eight sites, at the places from that of the first on
+pub eight_seen : (g : Grid) (s : Sand) (c : Counts) {v : TiledView} {k p : ℕ} (at : Spot) → tiled_view g s c ≡ v
+    → IsFirstOfEight v.grid at → k ≡ tile_of g (at.row * g.width + at.column)
+    → p ≡ place_of g (at.row * g.width + at.column) → (i : ℕ) → i < 8 → at.column + i < v.grid.width
+    → (height (tiles_of s k) (p + i) ≡ slice_index v.heights (at.row * v.grid.width + (at.column + i)))
+    × (counted (counts_of c k) (p + i) ≡ slice_index v.times (at.row * v.grid.width + (at.column + i)))
+eight_seen g s c {k = k} {p} at view is tile place i few = subst (λ (v : TiledView).
+    IsFirstOfEight v.grid at → at.column + i < v.grid.width
+    → (height (tiles_of s k) (p + i) ≡ slice_index v.heights (at.row * v.grid.width + (at.column + i)))
+    × (counted (counts_of c k) (p + i) ≡ slice_index v.times (at.row * v.grid.width + (at.column + i)))) view
+    (λ first inside.
+    let there = eight_there g at i first few inside in
+    site_seen g s c (at.column + i) at.row refl (first_inside g at i first inside) (tile ∙ sym there.0)
+    (ap (λ q. q + i) place ∙ sym there.1)) is
+
+-- ---- reading all sites
+
+pub heights_seen : (g : Grid) (s : Sand) (c : Counts) {v : TiledView} → tiled_view g s c ≡ v
+    → (length v.heights ≡ sites g) × ((j : ℕ) → j < sites g → slice_index v.heights j ≤ 3)
+heights_seen g s c view = subst (λ (v : TiledView).
+    (length v.heights ≡ sites g) × ((j : ℕ) → j < sites g → slice_index v.heights j ≤ 3)) view (
+      by_site_long g (heights_on g (tiles_of s)),
+      λ j l.
+          let low = height_low (tiles_of s (tile_of g j)) (place_of g j) in
+          omega (arith, by_site_at g (heights_on g (tiles_of s)) j l),
+    )

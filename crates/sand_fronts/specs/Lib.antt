@@ -7,6 +7,7 @@ pub mod Counting
 pub mod Drops
 pub mod Boards
 pub mod TiledPiles
+pub mod Reading
 pub mod Reaching
 pub mod Avalanches
 pub mod WrittenBack

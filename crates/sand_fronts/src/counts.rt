@@ -16,9 +16,12 @@ ghost use Rattle.sand_fronts.specs.Boards.{tiles_of, counts_of, marks_of, IsBoar
 
 use crate::board::Board;
 use crate::marks::Marks;
+use crate::reading::add_between;
 use crate::sand::Sand;
 use core::mem::replace_with;
-use sand_tiles::{NO_RECENT, Recent, Tile, count_set, size, spill, sum_over, times_at};
+use sand_tiles::{
+    NO_RECENT, Recent, Tile, count_set, eight_times, size, spill, sum_over, times_at,
+};
 use std::alloc::{AllocError, Global};
 
 /// The number of topplings, and of grains that fell into the sink.
@@ -92,6 +95,21 @@ impl Counts {
         } else {
             latest
         }
+    }
+
+    /// How often each of eight places has toppled, from one on.
+    #[inline(always)]
+    pub(crate) fn eight_times(&self, k: usize, place: usize) -> [u64; 8]
+        requires tile { k < length self.now.each.items }
+        requires place { place < 57 }
+        requires bound { (p : ℕ) → p < 64 → counted (counts_of self.now k) p < 2 ^ 63 }
+        ensures { (c : ℕ) → c < 8 → slice_index result c ≡ counted (counts_of self.now k) (place + c) }
+    {
+        let mut times = eight_times(&self.each[k], place);
+        if k < self.spilled.len() {
+            add_between(&mut times, 0, 8, &self.spilled[k], place);
+        }
+        times
     }
 
     /// Sets the counts of a tile back to 0.

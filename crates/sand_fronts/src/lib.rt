@@ -9,6 +9,7 @@ mod extent;
 mod filling;
 mod marks;
 mod reach;
+mod reading;
 mod sand;
 mod sides;
 mod tiled_pile;

@@ -17,7 +17,8 @@ ghost use Rattle.sand_fronts.specs.Drops.{heights_on, AreQuiet};
 ghost use Rattle.sand_fronts.specs.WrittenBack.{AreLow, risen};
 ghost use Rattle.sand_fronts.specs.Avalanches.{IsAvalanche};
 ghost use Rattle.sand_fronts.specs.Boards.{tiles_of, free_of, counts_of, marks_of, grown, IsBoard, IsSand, HasSettled};
-ghost use Rattle.sand_fronts.specs.TiledPiles.{IsTiledPile, IsTiledView, toppled_between};
+ghost use Rattle.sand_fronts.specs.Reading.{IsFirstOfEight, AreOfEight};
+ghost use Rattle.sand_fronts.specs.TiledPiles.{IsTiledPile, IsTiledView, by_site, toppled_between};
 
 use crate::avalanche::Avalanche;
 use crate::board::{Board, DropSite};
@@ -25,11 +26,13 @@ use crate::counts::{Counts, NOTHING, Total};
 use crate::dropping::topple_all;
 use crate::extent::{Extent, take_all};
 use crate::marks::Marks;
+use crate::reach::Spot;
+use crate::reading::add_eights;
 use crate::sand::Sand;
 use crate::tiling::{find, find_at, tiles, tiles_with};
 use crate::written_back::write_back;
 use sand_model::{IndexList, Shape};
-use sand_tiles::{height_at, receive, set_of};
+use sand_tiles::{eight_heights, height_at, receive, set_of};
 use std::alloc::{AllocError, Global};
 use std::marker::Model;
 
@@ -241,19 +244,55 @@ impl TiledPile {
         self.times_in(column, row)
     }
 
-    /// The column and the row of the next site.
+    // The heights of eight sites in a row of a tile, from the first of them on.
     #[inline(always)]
-    pub fn next_place(&self, column: usize, row: usize) -> (usize, usize)
-        requires column { column < self.now.grid.width }
-        requires site { row * self.now.grid.width + column < sites self.now.grid }
-        ensures column { result.0 < self.now.grid.width }
-        ensures site { result.1 * self.now.grid.width + result.0 ≡ row * self.now.grid.width + column + 1 }
+    fn eight_heights(&self, spot: Spot) -> [u64; 8]
+        requires { IsFirstOfEight self.now.grid spot }
+        ensures { AreOfEight self.now.grid spot (slice_index self.now.heights) result }
     {
-        let width = self.board.shape.width();
-        if column + 1 < width {
-            (column + 1, row)
-        } else {
-            (0, row + 1)
-        }
+        let (tile, place) = find_at(self.board.shape, spot.column, spot.row);
+        eight_heights(&self.sand.tiles[tile], place)
+    }
+
+    // How often each of them has toppled.
+    #[inline(always)]
+    fn eight_times(&self, spot: Spot) -> [u64; 8]
+        requires spot { IsFirstOfEight self.now.grid spot }
+        requires bound { (j : ℕ) → j < sites self.now.grid → slice_index self.now.times j < 2 ^ 63 }
+        ensures { AreOfEight self.now.grid spot (slice_index self.now.times) result }
+    {
+        let (tile, place) = find_at(self.board.shape, spot.column, spot.row);
+        self.counts.eight_times(tile, place)
+    }
+
+    /// Writes the height of each site. It is faster than to read them one by one.
+    pub fn read_heights(&self, heights: &mut [u64])
+        requires { length heights.old ≡ sites self.now.grid }
+        ensures { heights.new ≡ self.now.heights }
+    {
+        heights.fill(0);
+        let shape = self.board.shape;
+        let heights_from = |spot: Spot| -> [u64; 8]
+            requires { IsFirstOfEight self.now.grid spot }
+            ensures { AreOfEight self.entry.now.grid spot (slice_index self.entry.now.heights) result }
+        { self.eight_heights(spot) };
+        add_eights(shape, heights, &heights_from);
+    }
+
+    /// Adds to the entry of each site how often it has toppled. It is faster than to read them one by one.
+    pub fn add_times(&self, odometer: &mut [u64])
+        requires len { length odometer.old ≡ sites self.now.grid }
+        requires bound { (j : ℕ) → j < sites self.now.grid
+            → slice_index odometer.old j + slice_index self.now.times j < 2 ^ 63 }
+        ensures { odometer.new ≡ by_site self.now.grid
+            (λ j. slice_index odometer.old j + slice_index self.now.times j) }
+    {
+        let shape = self.board.shape;
+        let times_from = |spot: Spot| -> [u64; 8]
+            requires spot { IsFirstOfEight self.now.grid spot }
+            requires bound { (j : ℕ) → j < sites self.now.grid → slice_index self.now.times j < 2 ^ 63 }
+            ensures { AreOfEight self.entry.now.grid spot (slice_index self.entry.now.times) result }
+        { self.eight_times(spot) };
+        add_eights(shape, odometer, &times_from);
     }
 }

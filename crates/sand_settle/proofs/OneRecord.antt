@@ -1,11 +1,13 @@
 -- Heights have one settled record, which depends only on those at the sites of the grid.
-use Rattle.std.proofs.Common.{ℕ, ◌≡◌, ◌<◌, ◌∙◌, refl, sym, subst, arith}
+use Rattle.std.proofs.Common.{ℕ, ◌≡◌, ◌*◌, ◌<◌, ◌∙◌, refl, sym, ap, subst, arith}
 use Rattle.std.specs.Prelude.{slice_index}
 use Rattle.std.proofs.lemmas.List.{ext_get_or}
-use Rattle.sand_model.specs.Grid.{Grid, sites}
-use Rattle.sand_model.specs.Sand.{topplings, lost}
+use Rattle.sand_model.specs.Grid.{Grid, sites, missing}
+use Rattle.sand_model.specs.Sand.{topplings, lost, IsStable, IsSettled}
 use Rattle.sand_model.specs.Piles.{height_of}
 use Rattle.sand_model.proofs.Sandpile.{settled_once, settled_same}
+use Rattle.sand_model.proofs.SumsBelow.{sum_below_none}
+use Rattle.sand_model.proofs.Underway.{underway_start, underway_end}
 use Rattle.sand_settle.specs.Settling.{SettledView, IsSettledRecord, IsSomeSettledRecord, odometer_of}
 
 -- records with the same parts are the same
@@ -51,3 +53,18 @@ module _ (g : Grid) (s : ℕ → ℕ) (r q : SettledView)
   one_record = same_parts (first.grid ∙ sym second.grid) same_heights same_odometer
       (first.all_topplings ∙ (λ k. topplings g (slice_index (same_odometer k))) ∙ sym second.all_topplings)
       (first.all_lost ∙ (λ k. lost g (slice_index (same_odometer k))) ∙ sym second.all_lost)
+
+-- ---- a stable pile
+
+pub stable_is_settled : (g : Grid) (s : ℕ → ℕ) → IsStable g s → IsSettled g s (λ i. 0) s
+stable_is_settled g s stable = underway_end g s (λ i. 0) s (underway_start g s (λ i. 0) (λ i l. refl)) stable.low
+
+pub record_of_stable : (g : Grid) (s : ℕ → ℕ) (r : SettledView) → IsStable g s → IsSettledRecord g s r
+    → ((i : ℕ) → i < sites g → (height_of r.pile i ≡ s i) × (odometer_of r i ≡ 0)) × (r.topplings ≡ 0) × (r.lost ≡ 0)
+record_of_stable g s r stable is =
+    let same = settled_once g s (odometer_of r) (λ i. 0) (height_of r.pile) s is.settled (stable_is_settled g s stable) in (
+      λ i l. ((same i l).1, (same i l).0),
+      is.all_topplings ∙ sum_below_none (sites g) (odometer_of r) (λ i l. (same i l).0),
+      is.all_lost ∙ sum_below_none (sites g) (λ i. missing g i * odometer_of r i)
+          (λ i l. ap (λ n. missing g i * n) (same i l).0 ∙ omega arith),
+    )

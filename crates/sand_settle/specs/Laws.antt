@@ -1,9 +1,9 @@
 -- The laws of settled records and of the pile of one thread.
 use Rattle.std.specs.Prelude.{ℕ, ◌≡◌, ◌+◌, ◌<◌, List, [], sum}
 use Rattle.sand_model.specs.Grid.{Grid, sites}
-use Rattle.sand_model.specs.Sand.{grains}
-use Rattle.sand_model.specs.Piles.{PileView}
-use Rattle.sand_settle.specs.Settling.{SettledView, IsSettledRecord}
+use Rattle.sand_model.specs.Sand.{grains, IsStable, IsSettled}
+use Rattle.sand_model.specs.Piles.{PileView, height_of}
+use Rattle.sand_settle.specs.Settling.{SettledView, IsSettledRecord, odometer_of}
 use Rattle.sand_settle.specs.Drops.{OneView, IsAfter, DropsAll}
 
 -- after any list of drops, one by one, the record is the settled record of the start and the list
@@ -19,6 +19,15 @@ RecordBySite = (g : Grid) (s t : ℕ → ℕ) (r : SettledView) → ((i : ℕ) �
 -- heights have one settled record: one pile, one odometer, one number of topplings and of grains lost
 abbrev pub OneRecord : Type 0
 OneRecord = (g : Grid) (s : ℕ → ℕ) (r q : SettledView) → IsSettledRecord g s r → IsSettledRecord g s q → r ≡ q
+
+-- a stable pile settles to itself, and its odometer is 0
+abbrev pub StableIsSettled : Type 0
+StableIsSettled = (g : Grid) (s : ℕ → ℕ) → IsStable g s → IsSettled g s (λ i. 0) s
+
+-- so its settled record has the same heights, no topplings and no grain lost
+abbrev pub RecordOfStable : Type 0
+RecordOfStable = (g : Grid) (s : ℕ → ℕ) (r : SettledView) → IsStable g s → IsSettledRecord g s r
+    → ((i : ℕ) → i < sites g → (height_of r.pile i ≡ s i) × (odometer_of r i ≡ 0)) × (r.topplings ≡ 0) × (r.lost ≡ 0)
 
 -- the grains of the start are lost, or on the settled pile
 abbrev pub GrainsAreKept : Type 0

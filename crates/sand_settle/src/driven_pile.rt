@@ -7,7 +7,6 @@
 ghost use Rattle.std.specs.Prelude.{◌≡◌, ℕ, ◌+◌, ◌^◌, ◌<◌, ◌↔◌, List, [], ◌∷◌, ◌++◌, length, sum, slice_index, IfOk, OnOk, OnErr, IfErr, IsOkUnless, alloc_error};
 ghost use Rattle.sand_model.specs.Grid.{sites};
 ghost use Rattle.sand_model.specs.Piles.{PileView, height_of, most_grains};
-ghost use Rattle.sand_fronts.specs.TiledPiles.{by_site};
 ghost use Rattle.sand_settle.specs.Avalanches.{IsAvalanche};
 ghost use Rattle.sand_settle.specs.Settling.{odometer_of};
 ghost use Rattle.sand_settle.specs.Drops.{grid_of_one_pile, topplings_between, IsAfter, Drops};
@@ -44,33 +43,6 @@ impl Model for DrivenPile {
     ghost view = { λ p. one_view (driven_record p.start p.fronts p.topplings p.lost) p.number };
 
     ghost invariant = { λ p. IsDriven p.start p.fronts p.number p.topplings p.lost p.grains };
-}
-
-fn read_heights(fronts: &TiledPile, heights: &mut [u64])
-    requires len { length heights.old ≡ sites fronts.now.grid }
-    requires all { length fronts.now.heights ≡ sites fronts.now.grid }
-    ensures { heights.new ≡ fronts.now.heights }
-{
-    let (mut column, mut row) = (0, 0);
-    for height in heights.iter_mut() {
-        *height = fronts.height_in(column, row);
-        (column, row) = fronts.next_place(column, row);
-    }
-}
-
-// Adds the topplings on the tiles to an odometer.
-fn add_times(fronts: &TiledPile, odometer: &mut [u64])
-    requires len { length odometer.old ≡ sites fronts.now.grid }
-    requires bound { (j : ℕ) → j < sites fronts.now.grid
-        → slice_index odometer.old j + slice_index fronts.now.times j < 2 ^ 63 }
-    ensures { odometer.new ≡ by_site fronts.now.grid
-        (λ j. slice_index odometer.old j + slice_index fronts.now.times j) }
-{
-    let (mut column, mut row) = (0, 0);
-    for count in odometer.iter_mut() {
-        *count += fronts.times_in(column, row);
-        (column, row) = fronts.next_place(column, row);
-    }
 }
 
 impl DrivenPile {
@@ -170,6 +142,24 @@ impl DrivenPile {
         self.start.odometer(site) + self.fronts.times(site)
     }
 
+    /// Writes the height of each site. It is faster than to read them one by one.
+    pub fn read_heights(&self, heights: &mut [u64])
+        requires { length heights.old ≡ sites (grid_of_one_pile self.now) }
+        ensures { heights.new ≡ self.now.settled.pile.heights }
+    {
+        self.fronts.read_heights(heights);
+    }
+
+    /// Writes how often each site has toppled since the start, including its settling. It is faster than to read the
+    /// sites one by one.
+    pub fn read_odometer(&self, odometer: &mut [u64])
+        requires { length odometer.old ≡ sites (grid_of_one_pile self.now) }
+        ensures { odometer.new ≡ self.now.settled.odometer }
+    {
+        odometer.copy_from_slice(self.start.odometers());
+        self.fronts.add_times(odometer);
+    }
+
     /// The settled record of the start and all drops, without a copy.
     pub fn finish(self) -> Settled
         ensures value { result ≡ self.settled }
@@ -189,8 +179,8 @@ impl DrivenPile {
             ..
         } = start;
         let (shape, mut heights) = pile.into_parts();
-        read_heights(&fronts, &mut heights);
-        add_times(&fronts, &mut odometer);
+        fronts.read_heights(&mut heights);
+        fronts.add_times(&mut odometer);
         Settled {
             pile: Pile::from_counted(shape, heights, grains - lost),
             odometer,

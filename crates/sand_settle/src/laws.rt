@@ -3,7 +3,7 @@
 //! Settling in two parts is settling at once (`sand_model::laws::abelian`). So dropping grains one by one, each on a
 //! settled pile, leads to the same pile as dropping all of them together, and the odometers add up.
 
-ghost use Rattle.sand_settle.specs.Laws.{DropsAddUp, RecordBySite, OneRecord, GrainsAreKept};
+ghost use Rattle.sand_settle.specs.Laws.{DropsAddUp, RecordBySite, OneRecord, StableIsSettled, RecordOfStable, GrainsAreKept};
 
 /// At whatever sites grains are dropped one by one, the record is that of the start and all the grains.
 pub fn drops_add_up()
@@ -14,6 +14,12 @@ pub fn drops_add_up()
 pub fn one_record()
     ensures unique { OneRecord }
     ensures by_site { RecordBySite }
+{}
+
+/// A stable pile settles to itself, and no site topples.
+pub fn stable_settles_to_itself()
+    ensures settled { StableIsSettled }
+    ensures record { RecordOfStable }
 {}
 
 /// No grain vanishes: those that are not lost are on the settled pile.

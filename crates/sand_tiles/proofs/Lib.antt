@@ -3,3 +3,4 @@ pub mod Moves
 pub mod Around
 pub mod Rounds
 pub mod Ones
+pub mod Rows

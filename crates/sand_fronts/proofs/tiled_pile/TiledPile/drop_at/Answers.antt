@@ -1,4 +1,4 @@
-use Rattle.std.proofs.Common.{◌∙◌}
+use Rattle.std.proofs.Common.{◌^◌, ◌∙◌, arith}
 use Rattle.sand_fronts.specs.Boards.{counts_of}
 use Rattle.sand_fronts.proofs.NewPiles.{counts_sites}
 use Rattle.sand_fronts.proofs.OnPiles.{dropped, few_now, pile_after, sites_toppled}
@@ -8,8 +8,8 @@ pub topple_grain-total-requires : goal.topple_grain-total-requires
 topple_grain-total-requires c = record {
   site = rw (← c.self.view_is) at c.requires.site;
   pile = c.self.invariant;
-  bound = few_now c.self.inside.board.shape c.self.inside.sand c.self.inside.counts c.self.invariant.at_sites
-      (rw (← c.self.view_is) at c.requires.bound);
+  bound = few_now (2 ^ 60) c.self.inside.board.shape c.self.inside.sand c.self.inside.counts (omega arith)
+      c.self.invariant.at_sites (rw (← c.self.view_is) at c.requires.bound);
 }
 
 pub avalanche_of-requires-clause-at_sites : goal.avalanche_of-requires-clause-at_sites
