@@ -8,7 +8,7 @@ use Rattle.sand_model.specs.Grid.{Grid, IsGrid, sites}
 use Rattle.sand_model.specs.Sand.{IsStable, IsSettled, one_at}
 use Rattle.sand_model.specs.Integers.{whole}
 use Rattle.sand_model.specs.Piles.{PileView, IsPile, height_of, most_grains}
-use Rattle.sand_model.proofs.Sandpile.{settled_same}
+use Rattle.sand_model.proofs.Sandpile.{settled_in_parts, settled_once, settled_same}
 use Rattle.sand_model.proofs.Bounds.{sites_limit}
 use Rattle.sand_model.proofs.Heights.{get_or-written}
 use Rattle.sand_settle.specs.Settling.{SettledView, IsSettledRecord, odometer_of}
@@ -31,6 +31,23 @@ together_small a b is_a is_b stable_a stable_b =
     omega (arith, few_if_stable a is_a stable_a, few_if_stable b is_b stable_b)
 
 -- ---- settled piles
+
+pub settles_to_one : (g : Grid) (s : ℕ → ℕ) (p q : PileView) → SettlesTo g s p → SettlesTo g s q → p ≡ q
+settles_to_one g s p q one other =
+    let same = ext_get_or 0 p.heights q.heights (one.len ∙ sym other.len)
+    (λ i l. (settled_once g s one.odometer other.odometer (height_of p) (height_of q) one.settled other.settled i
+    (omega (arith, one.len))).1) in
+    λ k. record { grid = (one.grid ∙ sym other.grid) k; heights = same k }
+
+pub settles_in_parts : (g : Grid) (a b : ℕ → ℕ) (p q : PileView) → SettlesTo g a p
+    → SettlesTo g (λ i. height_of p i + b i) q → SettlesTo g (λ i. a i + b i) q
+settles_in_parts g a b p q first second = record {
+  grid = second.grid;
+  len = second.len;
+  odometer = λ i. first.odometer i + second.odometer i;
+  settled = settled_in_parts g a b first.odometer (height_of p) second.odometer (height_of q)
+      first.settled second.settled;
+}
 
 pile_settles : (g h : Grid) (s r : ℕ → ℕ) (p : PileView) → SettlesTo g s p
     → h ≡ g → ((i : ℕ) → i < sites g → r i ≡ s i) → SettlesTo h r p

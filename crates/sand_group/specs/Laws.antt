@@ -3,8 +3,18 @@ use Rattle.std.specs.Prelude.{ℕ, ℤ, ◌≡◌, ◌+◌, ◌-◌, ◌*◌, �
 use Rattle.sand_model.specs.Grid.{Grid, IsGrid, sites}
 use Rattle.sand_model.specs.Sand.{IsStable, IsSettled}
 use Rattle.sand_model.specs.Integers.{whole, IsEquivalent}
+use Rattle.sand_model.specs.Piles.{PileView, height_of}
 use Rattle.sand_group.specs.Recurrence.{IsRecurrent, IsBurningOrder}
-use Rattle.sand_group.specs.Group.{OnceSettled, IsSurplus, Represents, IsSum, IsMultiple, IsIdentity, IsInverse}
+use Rattle.sand_group.specs.Group.{SettlesTo, OnceSettled, IsSurplus, Represents, IsSum, IsMultiple, IsIdentity, IsInverse}
+
+-- two piles that the same heights settle to are equal
+abbrev pub SettlesToOnePile : Type 0
+SettlesToOnePile = (g : Grid) (s : ℕ → ℕ) (p q : PileView) → SettlesTo g s p → SettlesTo g s q → p ≡ q
+
+-- heights a and b together settle to what the settled pile of a and b together settle to
+abbrev pub SettlesInParts : Type 0
+SettlesInParts = (g : Grid) (a b : ℕ → ℕ) (p q : PileView) → SettlesTo g a p
+    → SettlesTo g (λ i. height_of p i + b i) q → SettlesTo g (λ i. a i + b i) q
 
 -- the burning test: a stable pile is recurrent if and only if all its sites burn in some order
 abbrev pub BurningDecides : Type 0

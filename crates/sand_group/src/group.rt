@@ -69,8 +69,8 @@ impl Recurrent {
         }
     }
 
-    /// Fails only if an allocation fails (Memory).
-    pub(crate) fn copy(&self, alloc: Global) -> Result<Recurrent, GroupFault>
+    /// The same pile. Fails only if an allocation fails (Memory).
+    pub fn copy(&self, alloc: Global) -> Result<Recurrent, GroupFault>
         ensures same { IfOk result (λ c. c ≡ self.now) }
         ensures memory { IsOkUnless result (GroupFault.Memory alloc_error) }
     {

@@ -16,7 +16,13 @@
 //! second, unless z is at most 0. The same holds for -z. So two equivalent recurrent piles are equal. And a recurrent c
 //! is what c + d settles to, for d = 2m - settled(2m): d is equivalent to all 0 and at least m.
 
-ghost use Rattle.sand_group.specs.Laws.{BurningDecides, RecurrentBySite, RecurrentFromFull, StaysRecurrent, EachClassHasOne, EquivalentRecurrentsAreEqual, RepresentativesAreEqual, SumIsSettled, EachGridHasSurplus, IdentityIsSettled, InverseIsSettled, IdentityIsNeutral, InverseCancels, EquivalentIsSettled, RepresentsItself, EquivalentsAddUp, EachHasOneMultiple, NoneIsIdentity, OneIsItself, MultiplesAddUp};
+ghost use Rattle.sand_group.specs.Laws.{SettlesToOnePile, SettlesInParts, BurningDecides, RecurrentBySite, RecurrentFromFull, StaysRecurrent, EachClassHasOne, EquivalentRecurrentsAreEqual, RepresentativesAreEqual, SumIsSettled, EachGridHasSurplus, IdentityIsSettled, InverseIsSettled, IdentityIsNeutral, InverseCancels, EquivalentIsSettled, RepresentsItself, EquivalentsAddUp, EachHasOneMultiple, NoneIsIdentity, OneIsItself, MultiplesAddUp};
+
+/// Heights settle to one pile, at once or in two parts.
+pub fn settles_to_one_pile()
+    ensures unique { SettlesToOnePile }
+    ensures parts { SettlesInParts }
+{}
 
 /// A stable pile is recurrent if and only if all its sites burn in some order.
 pub fn burning_decides()
