@@ -1,5 +1,5 @@
-/* Measures the piles that live behind handles: drops on a shared pile by four threads and by one, and single drops on a driven
-   pile against a list of them. Prints the least of several rounds.
+/* Measures the piles that live behind handles: drops on a shared pile by four threads and by one, single drops on a driven
+   pile against a list of them, and reading it. Prints the least of several rounds.
 
    cc -O2 -pthread -I include tools/bench/handles.c -L crates/sand_c/out -lsandpile -Wl,-rpath,"$PWD/crates/sand_c/out" -o handles */
 #include "sandpile.h"
@@ -8,7 +8,10 @@
 #include <stdlib.h>
 #include <time.h>
 
-enum { ROUNDS = 8, THREADS = 4, EACH = 1000000, LIST = 62500, SIDE = 128, WIDE = 256, BURN_IN = 60000, SINGLE = 20000, FEW = 2000 };
+enum {
+    ROUNDS = 8, THREADS = 4, EACH = 1000000, LIST = 62500, SIDE = 128, WIDE = 256, BURN_IN = 60000, SINGLE = 20000, FEW = 2000,
+    READS = 20
+};
 
 struct dropper {
     sandpile_pass pass;
@@ -110,8 +113,23 @@ static double driven(enum way way) {
     return took * 1e6 / (double)drops;
 }
 
+/* The processor time of reading heights or counts, in nanoseconds a site. */
+static double read_all(bool counts) {
+    sandpile_drive drive = {0};
+    size_t length = WIDE * WIDE;
+    check(sandpile_drive_new(WIDE, WIDE, false, heights, length, &drive));
+    check(sandpile_drive_drop(&drive, sites, SINGLE, avalanches, SINGLE));
+    double begun = seconds(CLOCK_PROCESS_CPUTIME_ID);
+    for (int i = 0; i < READS; i++)
+        check(counts ? sandpile_drive_read(&drive, NULL, 0, odometer, length, &topplings, &lost)
+                     : sandpile_drive_read(&drive, odometer, length, NULL, 0, &topplings, &lost));
+    double took = seconds(CLOCK_PROCESS_CPUTIME_ID) - begun;
+    sandpile_drive_free(&drive);
+    return took * 1e9 / (double)(READS * length);
+}
+
 int main(void) {
-    double dropping[2] = {0}, all[2] = {0}, driving[WAYS] = {0};
+    double dropping[2] = {0}, all[2] = {0}, driving[WAYS] = {0}, reading[2] = {0};
     for (int round = 0; round < ROUNDS; round++)
         for (int k = 0; k < 2; k++) share(k ? 1 : THREADS, &dropping[k], &all[k]);
     for (int k = 0; k < 2; k++)
@@ -120,5 +138,8 @@ int main(void) {
     for (int round = 0; round < ROUNDS; round++)
         for (int way = 0; way < WAYS; way++) keep_least(&driving[way], driven((enum way)way));
     for (int way = 0; way < WAYS; way++) printf("driven pile, drops %s: %.2f us\n", ways[way], driving[way]);
+    for (int round = 0; round < ROUNDS; round++)
+        for (int k = 0; k < 2; k++) keep_least(&reading[k], read_all(k));
+    for (int k = 0; k < 2; k++) printf("driven pile, %s read: %.2f ns a site\n", k ? "counts" : "heights", reading[k]);
     return 0;
 }

@@ -101,9 +101,7 @@ impl Drive {
         ensures heights { (i : ℕ) → i < sites (grid_of_one_pile self.now)
             → slice_index heights.new i ≡ height_of self.now.settled.pile i }
     {
-        for (site, height) in heights.iter_mut().enumerate() {
-            *height = self.pile.height(site);
-        }
+        self.pile.read_heights(heights);
     }
 
     // Writes how often each site has toppled.

@@ -18,9 +18,7 @@ pub(crate) fn read_odometer(pile: &DrivenPile, odometer: &mut [u64])
     requires { length odometer.old ≡ sites (grid_of_one_pile pile.now) }
     ensures { IsOdometer odometer.new pile.now }
 {
-    for (site, count) in odometer.iter_mut().enumerate() {
-        *count = pile.odometer(site);
-    }
+    pile.read_odometer(odometer);
 }
 
 // The first column within a reach of column `x`, and the one after the last. If the reach crosses the seam of a cylinder,
