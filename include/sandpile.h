@@ -155,8 +155,8 @@ uint32_t sandpile_multiple(size_t width, size_t height, bool cylinder, uint64_t 
    `at` belongs to the library: never write it. You may move a handle by copying the struct, if the old one is no longer
    used; a copy is not a second handle.
 
-   Calls on one handle must not run at the same time, not even those that only read. Calls on different handles may, on any
-   threads, even if their passes share a pile. Pass a handle to another thread by anything that makes the calls before happen
+   Calls on one handle must not run at the same time, except those that take it as `const`: these only read, and any number of
+   them may. Calls on different handles may run at the same time, on any threads, even if their passes share a pile. Pass a handle to another thread by anything that makes the calls before happen
    before the calls after: starting or joining a thread, a lock, a condition variable, a pipe, or an atomic that one thread
    stores with `memory_order_release` and the other loads with `memory_order_acquire`.
 
@@ -188,11 +188,11 @@ uint32_t sandpile_drive_avalanche(sandpile_drive *drive, size_t site, sandpile_a
 /* Writes the heights and, since `sandpile_drive_new` and with its settling, how often each site toppled, the number of
    topplings and the grains lost. `heights_length` and `odometer_length` are each width times height, or 0 if that array is
    not to be written. EMPTY, LENGTH. */
-uint32_t sandpile_drive_read(sandpile_drive *drive, uint64_t *heights, size_t heights_length, uint64_t *odometer,
+uint32_t sandpile_drive_read(const sandpile_drive *drive, uint64_t *heights, size_t heights_length, uint64_t *odometer,
                              size_t odometer_length, uint64_t *topplings, uint64_t *lost);
 
 /* Writes the height of a site and, since `sandpile_drive_new` and with its settling, how often it toppled. EMPTY, NO_SITE. */
-uint32_t sandpile_drive_site(sandpile_drive *drive, size_t site, uint64_t *height, uint64_t *topplings);
+uint32_t sandpile_drive_site(const sandpile_drive *drive, size_t site, uint64_t *height, uint64_t *topplings);
 
 /* Frees what a handle holds, if anything, and empties it. */
 void sandpile_drive_free(sandpile_drive *drive);
@@ -231,7 +231,7 @@ uint32_t sandpile_pass_split_rows(sandpile_pass *pass, uint16_t rows, sandpile_p
    nothing. EMPTY, NO_SITE, SPENT. */
 uint32_t sandpile_pass_drop(sandpile_pass *pass, const size_t *drops, size_t drops_length, uint64_t *first);
 
-/* Writes how many drops of all passes have begun. EMPTY. */
+/* Writes how many drops of all passes have begun, which the pass then has seen. EMPTY. */
 uint32_t sandpile_pass_tally(sandpile_pass *pass, uint64_t *drops);
 
 /* Visits each site of the pass's rows once, and topples it as often as the grains on it then allow. Writes the number of
@@ -239,7 +239,7 @@ uint32_t sandpile_pass_tally(sandpile_pass *pass, uint64_t *drops);
 uint32_t sandpile_pass_sweep(sandpile_pass *pass, uint64_t *topplings);
 
 /* Writes what a pass holds. EMPTY. */
-uint32_t sandpile_pass_holding(sandpile_pass *pass, sandpile_holding *holding);
+uint32_t sandpile_pass_holding(const sandpile_pass *pass, sandpile_holding *holding);
 
 /* Moves all that `other` holds to `pass`, and empties `other`. If both have rows, these must be adjacent (APART). Both must
    be passes of one pile, and two of them. A test refuses others with OTHER_PILE, also a handle that is joined to itself or

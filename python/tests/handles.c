@@ -4,11 +4,13 @@
      refuse       each allocation of each call fails in turn: nothing changes, and nothing is leaked
      churn        100,000 handles are filled and freed: memory does not grow
      misuse       faults in their order, and handles that stay as they are
+     readers      four threads read a drive and a pass at the same time
      strangers    joins of passes of two piles, while another thread makes joins on one of them
      avalanches   20,000 avalanches, one a call, between drops in lists, against a drive with all drops in lists
      fork         parent and child drop on copies of a drive and of a shared pile
 
-   A test prints one line. malloc, calloc, realloc and free are defined here, to count blocks and to fail. */
+   A test prints one line. malloc, calloc, realloc and free are defined here, to count blocks and to fail, unless IS_WATCHED says
+   that a tool has its own. */
 #include "sandpile.h"
 #include <inttypes.h>
 #include <pthread.h>
@@ -22,6 +24,10 @@
 
 enum { SIDE = 16, SITES = SIDE * SIDE, QUOTA = 200, THREADS = 4 };
 
+#ifndef READS
+#define READS 100000
+#endif
+
 /* Memory */
 
 extern void *__libc_malloc(size_t), *__libc_calloc(size_t, size_t), *__libc_realloc(void *, size_t);
@@ -29,6 +35,8 @@ extern void __libc_free(void *);
 
 static atomic_long blocks;        /* those that live */
 static atomic_long requests = -1; /* how many requests are still granted; below 0: all */
+
+#ifndef IS_WATCHED
 
 static bool is_refused(void) {
     long left = atomic_load(&requests);
@@ -63,6 +71,8 @@ void free(void *block) {
     if (block) atomic_fetch_sub(&blocks, 1);
     __libc_free(block);
 }
+
+#endif
 
 /* Checks */
 
@@ -462,6 +472,47 @@ static void misuse(void) {
     printf("misuse: %d calls refused, each with its fault\n", refused);
 }
 
+/* Readers: `drive` is a pile of threes on which one grain has dropped, and `pass` has made one drop. */
+
+static void expect_to_read(const uint64_t *heights, const uint64_t *odometer, int i) {
+    uint64_t now[2][SITES], sums[2];
+    sandpile_holding held;
+    OK(sandpile_drive_site(&drive, 17, &sums[0], &sums[1]));
+    EXPECT(sums[0] == heights[17] && sums[1] == odometer[17]);
+    OK(sandpile_pass_holding(&pass, &held));
+    EXPECT(held.left == QUOTA - 1 && held.seen == 1 && held.drops == 1 && held.first_row == 0 && held.end_row == SIDE);
+    if (i % 10) return;
+    OK(sandpile_drive_read(&drive, now[0], SITES, now[1], SITES, &sums[0], &sums[1]));
+    EXPECT(!memcmp(now[0], heights, sizeof now[0]) && !memcmp(now[1], odometer, sizeof now[1]));
+}
+
+static void *read_on(void *argument) {
+    const uint64_t *first = argument;
+    for (int i = 0; i < READS; i++) expect_to_read(first, first + SITES, i);
+    return NULL;
+}
+
+static void readers(void) {
+    static uint64_t first[2 * SITES];
+    pthread_t threads[THREADS];
+    uint64_t sums[2];
+    const void *held[2];
+    fill_with_threes();
+    OK(new_drive());
+    OK(sandpile_drive_drop(&drive, drops + 2, 1, out.rows, 1));
+    OK(new_shared());
+    OK(sandpile_pass_drop(&pass, drops, 1, out.sums));
+    OK(sandpile_drive_read(&drive, first, SITES, first + SITES, SITES, &sums[0], &sums[1]));
+    held[0] = drive.at, held[1] = pass.at;
+    for (int i = 0; i < THREADS; i++) EXPECT(!pthread_create(&threads[i], NULL, read_on, first));
+    for (int i = 0; i < THREADS; i++) EXPECT(!pthread_join(threads[i], NULL));
+    EXPECT(drive.at == held[0] && pass.at == held[1]);
+    OK(sandpile_drive_drop(&drive, drops, 4, out.rows, 4));
+    sandpile_drive_free(&drive);
+    sandpile_pass_free(&pass);
+    printf("readers: %d threads read two handles %d times each\n", THREADS, READS);
+}
+
 /* Strangers: `pass` and `other` are of two piles. Another thread joins passes of the second one without end. */
 
 enum { TRIES = 100000 };
@@ -638,6 +689,7 @@ int main(int count, char **words) {
         else if (!strcmp(words[i], "refuse")) refuse();
         else if (!strcmp(words[i], "churn")) churn();
         else if (!strcmp(words[i], "misuse")) misuse();
+        else if (!strcmp(words[i], "readers")) readers();
         else if (!strcmp(words[i], "strangers")) strangers();
         else if (!strcmp(words[i], "avalanches")) avalanches();
         else if (!strcmp(words[i], "fork")) fork_once();

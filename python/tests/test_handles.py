@@ -68,6 +68,16 @@ class Handles(unittest.TestCase):
         self.one_line_from("misuse")
 
     @needs("cc")
+    def test_calls_that_only_read_run_at_the_same_time(self):
+        self.one_line_from("readers")
+
+    @needs("cc", "valgrind")
+    def test_drd_is_silent_over_such_calls(self):
+        program = self.built(TESTS, "-std=c11", "-D_GNU_SOURCE", "-DIS_WATCHED", "-DREADS=100", "-O1", "-g")
+        text = ran("valgrind", "--tool=drd", "--quiet", "--error-exitcode=9", program, "readers")
+        self.assertEqual((text.count("\n"), text.split(":")[0]), (1, "readers"))
+
+    @needs("cc")
     def test_passes_of_two_piles_are_not_joined(self):
         self.one_line_from("strangers")
 

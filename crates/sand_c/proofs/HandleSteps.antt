@@ -52,7 +52,7 @@ abbrev pub word : Ptr → Val
 word p = vstruct (of_list (ptr_val p ∷ []))
 
 -- a handle is a struct with one field
-abbrev shape : Sym → Shape
+abbrev pub shape : Sym → Shape
 shape name = record { name = name; args = []; types = []; fields = RawPtr ∷ [] }
 
 -- a handle of this type, and what it owns

@@ -3,7 +3,10 @@ pub mod Chunks
 pub mod Found
 pub mod HandleSteps
 pub mod Joins
+pub mod LentSteps
 pub mod Near
+pub mod ReadSteps
+pub mod Readers
 pub mod Records
 pub mod Rows
 pub mod SettledAt

@@ -4,7 +4,7 @@
 
 ghost use Rattle.std.specs.Prelude.{◌≡◌, ◌≢◌, IfOk, IfErr, OnOk, IsOk, None, length};
 ghost use Rattle.sand_c.specs.Arguments.{sides_of, Fails, Answers, Returns, pile_of};
-ghost use Rattle.sand_c.specs.Driving.{IsDriveOf, Holds, LeadsTo, HaveDriven, HasDriven, IsReading, IsSiteOf, opening_of, driving_of, avalanche_of, reading_of, site_of};
+ghost use Rattle.sand_c.specs.Driving.{IsDriveOf, Holds, LeadsTo, HaveDriven, HasDriven, opening_of, driving_of, avalanche_of};
 
 use crate::SandpileAvalanche;
 use crate::arguments::{Sides, pile_in, sides_of};
@@ -102,67 +102,6 @@ pub extern "C" fn sandpile_drive_avalanche(
     let driven = held.drop_one(site, avalanche, topplings);
     drive.put(held);
     answer(driven)
-}
-
-/// Writes the heights now, how often each site has toppled since the start, the number of topplings and the grains
-/// lost. An array of length 0 is left out. Returns 0, or the first of 26 (Empty) and 2 (Length of a slice).
-#[tactic(auto, using(crate::proofs::Answered::returned))]
-#[unsafe(no_mangle)]
-pub extern "C" fn sandpile_drive_read(
-    alloc: Global,
-    drive: &mut SandpileDrive,
-    heights: &mut [u64],
-    odometer: &mut [u64],
-    topplings: &mut u64,
-    lost: &mut u64,
-) -> u32
-    ensures read { result ≡ 0 → Holds drive.old.held (IsReading heights.new odometer.new topplings.new lost.new) }
-    ensures answer { Returns result
-        (reading_of drive.old.held (length heights.old) (length odometer.old)) }
-    ensures drive { drive.new.held ≡ drive.old.held }
-    ensures heights { result ≢ 0 → heights.new ≡ heights.old }
-    ensures odometer { result ≢ 0 → odometer.new ≡ odometer.old }
-    ensures topplings { result ≢ 0 → topplings.new ≡ topplings.old }
-    ensures lost { result ≢ 0 → lost.new ≡ lost.old }
-{
-    let Some(held) = drive.take(alloc) else {
-        return Fault::Empty.number();
-    };
-    let read = held.read(heights, odometer, topplings, lost);
-    drive.put(held);
-    answer(read)
-}
-
-/// Writes the height of a site now, and how often it has toppled since the start, the start's settling included.
-/// Returns 0, or the first of 26 (Empty) and 25 (NoSite).
-#[tactic(auto, using(crate::proofs::Answered::returned))]
-#[unsafe(no_mangle)]
-pub extern "C" fn sandpile_drive_site(
-    alloc: Global,
-    drive: &mut SandpileDrive,
-    site: usize,
-    height: &mut u64,
-    topplings: &mut u64,
-) -> u32
-    ensures read { result ≡ 0 → Holds drive.old.held (IsSiteOf site height.new topplings.new) }
-    ensures answer { Returns result (site_of drive.old.held site) }
-    ensures drive { drive.new.held ≡ drive.old.held }
-    ensures height { result ≢ 0 → height.new ≡ height.old }
-    ensures topplings { result ≢ 0 → topplings.new ≡ topplings.old }
-{
-    let Some(held) = drive.take(alloc) else {
-        return Fault::Empty.number();
-    };
-    let read = held.site(site);
-    drive.put(held);
-    match read {
-        Ok((now, so_far)) => {
-            *height = now;
-            *topplings = so_far;
-            0
-        }
-        Err(fault) => fault.number(),
-    }
 }
 
 /// Frees what the handle holds, and empties it.

@@ -16,10 +16,12 @@ mod faults;
 mod group;
 mod holding;
 mod kept_odometer;
+mod lent;
 mod owned_pass;
 mod parts;
 mod pass_handle;
 mod passing;
+mod reading;
 mod settling;
 mod streams;
 mod version;
@@ -28,7 +30,6 @@ pub use burning::sandpile_burn;
 pub use drive_handle::SandpileDrive;
 pub use driving::{
     sandpile_drive_avalanche, sandpile_drive_drop, sandpile_drive_free, sandpile_drive_new,
-    sandpile_drive_read, sandpile_drive_site,
 };
 pub use dropping::sandpile_drop;
 pub use faults::Fault;
@@ -38,10 +39,11 @@ pub use group::{
 pub use holding::SandpileHolding;
 pub use pass_handle::SandpilePass;
 pub use passing::{
-    sandpile_pass_drop, sandpile_pass_free, sandpile_pass_holding, sandpile_pass_join,
-    sandpile_pass_settle, sandpile_pass_split, sandpile_pass_split_rows, sandpile_pass_sweep,
-    sandpile_pass_tally, sandpile_shared_new,
+    sandpile_pass_drop, sandpile_pass_free, sandpile_pass_join, sandpile_pass_settle,
+    sandpile_pass_split, sandpile_pass_split_rows, sandpile_pass_sweep, sandpile_pass_tally,
+    sandpile_shared_new,
 };
+pub use reading::{sandpile_drive_read, sandpile_drive_site, sandpile_pass_holding};
 pub use sand_settle::Avalanche as SandpileAvalanche;
 pub use settling::{sandpile_settle, sandpile_settle_all};
 pub use streams::sandpile_sites;

@@ -5,11 +5,10 @@
 ghost use Rattle.std.specs.Prelude.{◌≡◌, ◌≢◌, IfOk, IfErr, MatchOption, OnOk, IsOk, None, length};
 ghost use Rattle.sand_c.specs.Arguments.{sides_of, pile_of, Fails, Answers, Returns, IsAnswer};
 ghost use Rattle.sand_c.specs.Driving.{Holds, LeadsTo, held_in};
-ghost use Rattle.sand_c.specs.Passing.{IsFirstOf, HaveDropped, HasCounted, HasSwept, GivesAway, AreSplit, AreSplitByRows, TakesOver, AreOfOnePile, IsHolding, IsRecordTo, RecordFails, JoinFails, with_quota_of, sharing_of, dropping_by, splitting_of, splitting_rows_of, both_in, recording_of};
+ghost use Rattle.sand_c.specs.Passing.{IsFirstOf, HaveDropped, HasCounted, HasSwept, GivesAway, AreSplit, AreSplitByRows, TakesOver, AreOfOnePile, IsRecordTo, RecordFails, JoinFails, with_quota_of, sharing_of, dropping_by, splitting_of, splitting_rows_of, both_in, recording_of};
 
 use crate::arguments::{Sides, grains_of, grid_of, sides_of};
 use crate::faults::Fault;
-use crate::holding::SandpileHolding;
 use crate::owned_pass::OwnedPass;
 use crate::pass_handle::SandpilePass;
 use sand_model::{GRAIN_LIMIT, Pile};
@@ -142,26 +141,6 @@ pub extern "C" fn sandpile_pass_sweep(
         return Fault::Empty.number();
     };
     *topplings = held.sweep();
-    pass.put(held);
-    0
-}
-
-/// Writes what the pass holds. Returns 0 or 26 (Empty).
-#[unsafe(no_mangle)]
-pub extern "C" fn sandpile_pass_holding(
-    alloc: Global,
-    pass: &mut SandpilePass,
-    holding: &mut SandpileHolding,
-) -> u32
-    ensures told { result ≡ 0 → Holds pass.old.held (IsHolding holding.new) }
-    ensures answer { Returns result (held_in pass.old.held) }
-    ensures pass { pass.new.held ≡ pass.old.held }
-    ensures holding { result ≢ 0 → holding.new ≡ holding.old }
-{
-    let Some(held) = pass.take(alloc) else {
-        return Fault::Empty.number();
-    };
-    *holding = held.holding();
     pass.put(held);
     0
 }
