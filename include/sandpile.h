@@ -156,9 +156,10 @@ uint32_t sandpile_multiple(size_t width, size_t height, bool cylinder, uint64_t 
    used; a copy is not a second handle.
 
    Calls on one handle must not run at the same time, except those that take it as `const`: these only read, and any number of
-   them may. Calls on different handles may run at the same time, on any threads, even if their passes share a pile. Pass a handle to another thread by anything that makes the calls before happen
-   before the calls after: starting or joining a thread, a lock, a condition variable, a pipe, or an atomic that one thread
-   stores with `memory_order_release` and the other loads with `memory_order_acquire`.
+   them may. Calls on different handles may run at the same time, on any threads, even if their passes share a pile. Pass a
+   handle to another thread by anything that makes the calls before happen before the calls after: starting or joining a
+   thread, a lock, a condition variable, a pipe, or an atomic that one thread stores with `memory_order_release` and the other
+   loads with `memory_order_acquire`.
 
    A fork copies what handles hold, like all memory. Parent and child go on independently: neither sees the other's drops. */
 
@@ -251,8 +252,8 @@ uint32_t sandpile_pass_join(sandpile_pass *pass, sandpile_pass *other);
    such as the first pass after all others have joined it. Writes the settled heights, how often each site toppled, the site
    of each drop by number, the number of topplings and the grains lost: what one thread gets that drops this history.
    `heights_length` and `odometer_length` are width times height; `history_length` is the number of drops made with the pass
-   (`drops` of its holding). The pile and the pass do not change, and may go on. The call needs about 96 bytes for each site, more
-   on narrow grids, and 8 for each drop. EMPTY, LENGTH, MISSING, MEMORY. */
+   (`drops` of its holding). The pile and the pass do not change, and may go on. The call needs about 96 bytes for each site,
+   more on narrow grids, and 8 for each drop. EMPTY, LENGTH, MISSING, MEMORY. */
 uint32_t sandpile_pass_settle(sandpile_pass *pass, uint64_t *heights, size_t heights_length, uint64_t *odometer,
                               size_t odometer_length, size_t *history, size_t history_length, uint64_t *topplings,
                               uint64_t *lost);
