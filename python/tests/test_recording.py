@@ -9,6 +9,7 @@ import random
 import signal
 import subprocess
 import sys
+import tempfile
 import threading
 import time
 import unittest
@@ -19,7 +20,7 @@ import numpy as np
 import sandpile
 from sandpile import _library
 from test_replicas import MODULE, soon
-from tools import files_in, new_folder, same
+from tools import files_in, same
 
 FULL = np.full((16, 16), 3)
 ROW = sandpile.AVALANCHE.itemsize
@@ -127,10 +128,13 @@ class Disk:
 
 
 class InFolder(unittest.TestCase):
-    """Is in a folder of its own."""
+    """Is in a folder of its own, in memory if that can be: thousands of calls of fsync take minutes on a busy disk."""
 
     def setUp(self):
-        self.folder = new_folder(self)
+        memory = Path("/dev/shm")
+        room = tempfile.TemporaryDirectory(dir=memory if os.access(memory, os.W_OK) else None)
+        self.addCleanup(room.cleanup)
+        self.folder = Path(room.name)
         self.addCleanup(os.chdir, os.getcwd())
         os.chdir(self.folder)
 
