@@ -308,7 +308,8 @@ class Ended(InFolder):
 
 
 RECORDING = """
-import sys, numpy as np, sandpile
+import signal, sys, numpy as np, sandpile
+signal.alarm(120)  # in case the test is killed
 run = sandpile.Drive(np.full((64, 64), 3), seed=1)
 print("begun", flush=True)
 run.record(int(sys.argv[1]), "rows.bin", "run.npz", every=float(sys.argv[2]))
