@@ -19,7 +19,7 @@ TERM = re.compile(
     re.VERBOSE,
 )
 RENAMED = re.compile(r"([^\s,]+)(?: as (\w+))?")
-CLAUSE = re.compile(r"\b(?:requires|ensures|ghost)(?: \w+)?(?: =|:)? (?=\{)")
+CLAUSE = re.compile(r"\b(?:requires|ensures|ghost)\*?(?: \w+)?(?: =|:)? (?=\{)")
 LOGIC_WORDS = set("→ × ¬ ⊥ : = _ . .. λ ← let in Type Unit tt absurd record where".split())
 
 
@@ -53,7 +53,7 @@ def free_names(term: str, bound: set[str]) -> Iterator[str]:
 def ghost_imports(text: str) -> dict[str, tuple[str, str]]:
     """The module of each name that `use` or `ghost use` brings, and its name there, which is empty for a whole module."""
     found = {}
-    for path, names, alias in re.findall(r"^ *(?:\w+ )*use (Rattle[\w.]+?)(?:\.\{(.*)\}| as (\w+));?$", text, re.M):
+    for path, names, alias in re.findall(r"^ *(?:\w+ )*use (\w+\.[\w.]+?)(?:\.\{(.*)\}| as (\w+));?$", text, re.M):
         brought = [(there, here or there) for there, here in RENAMED.findall(names)]
         found |= {alias: (path, "")} | {part: (path, there) for there, here in brought for part in (here, *here.split("◌"))}
     return found
@@ -125,7 +125,7 @@ class SourceFile:
         """The public functions, with their contracts. A body begins in a line of its own if there are clauses."""
         for call in self.CALL.finditer(self.text):
             text = self.text[call.start():]
-            end = re.search(r"\n +(?:requires|ensures)\b| \{|;\n", text)
+            end = re.search(r"\n +(?:requires|ensures|ghost)\b| \{|;\n", text)
             stop = end.start() if end[0][0] != "\n" else text.index(f"\n{call[1]}{{")
             owners = re.findall(r"^impl.*?(\w+)(?:<[^>]*>)? \{$", self.text[:call.start()], re.M) if call[1] else []
             name = "::".join([*owners[-1:], call[2]])
@@ -136,8 +136,9 @@ class SourceFile:
         code = re.sub(r"^    [A-Z]\w*", "", it.code, flags=re.M) if "enum " in it.code else it.code.replace('"C" ', "")
         head, *clauses = CLAUSE.split(re.sub(r"⟦<(\w+) as .*?⟧", r"\1", code.replace(it.name, it.name.partition("::")[0], 1)))
         generics = re.search(r"\b(?:fn|struct|enum|trait|type) \w+<(.*?)>(?=[ ({;]|$)", head, re.M | re.S)
-        bound = {"Self", "self", "result", *re.findall(r"\b([a-z_]\w*):(?!:)", head)}
+        bound = {"Self", "self", "result", "𝓛", *re.findall(r"\b([a-z_]\w*):(?!:)", head)}
         bound.update(re.findall(r"(?:^|, )(?:const )?(\w+)", generics[1]) if generics else [])
+        bound.update(re.findall(r"^ *ghost (\w+):", code, re.M))
         paths = re.findall(r"(?<![\w'])[A-Za-z_]\w*(?:::\w+)*", head)
         yield from (path for path in paths if path not in bound and ("::" in path or path[0].isupper()))
         for clause in clauses:

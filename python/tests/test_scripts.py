@@ -462,6 +462,19 @@ class OfStatement(OfScripts):
             self.assertNotIn(word, said)
         self.assertEqual(said.splitlines()[-1], "2 definitions in 6 lines and 1 contract in 2 lines without comments, from 2 files")
 
+    def test_what_a_call_is_lent(self):
+        uses = "ghost use types.Logic.{sem};\nghost use Rattle.low.specs.Loads.{Load, lends};\n\n"
+        clauses = "    ghost lent: { Load }\n    requires* { sem 𝓛 (lends handle.now.0 lent) }\n"
+        call = f"pub fn look(handle: &Handle)\n{clauses}"
+        (self.top / "crates/low/src/lent.rt").write_text(f"{uses}use crate::handle::Handle;\n\n{call}{{\n}}\n", encoding="utf-8")
+        lends = "-- what is lent at a pointer\nabbrev pub lends : Ptr → Load → Fml\nlends p l = said p\n"
+        (self.top / "crates/low/specs/Loads.antt").write_text(f"use denote.Sharing.{{Ptr, Fml, said}}\n{LOADS}\n{lends}", encoding="utf-8")
+        status, said, reported = self.run_in("tools/statement", "look")
+        self.assertEqual((status, reported), (0, ""))
+        self.assertIn(lends, said)
+        self.assertIn(call, said)
+        self.assertRegex(said, "== standard library and toolchain: .*said sem")
+
     def test_the_page_names_a_function_by_its_crate(self):
         (self.top / "docs").mkdir()
         (self.top / "tools/theorem-template.md").write_text("@ Handle\n\nIt empties a handle.\n\n@ low::clear\n", encoding="utf-8")
