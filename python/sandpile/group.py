@@ -1,7 +1,7 @@
 """The sandpile group (Dhar 1990): recurrent piles, added by settling their sum.
 
-A sum settles one pile, of heights up to 6, and an inverse two. The n-th multiple takes at most two sums for each binary digit
-of n. The space is proportional to the sites.
+A sum settles one pile, of heights up to 6, and an inverse two. The n-th multiple is made by doubling. The space is proportional
+to the sites.
 """
 
 from __future__ import annotations

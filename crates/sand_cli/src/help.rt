@@ -63,7 +63,7 @@ Example: a pile 3 wide and 1 high, with 4 grains in the middle.
   topplings 1
 
 'sandpile help COMMAND' describes the input and output of a command. 'sandpile
---version' prints the version, and the toolchain and logic of the proofs.",
+--version' prints the version, and the logic of the proofs.",
 };
 
 pub(crate) const SETTLE: Help = Help {
@@ -197,8 +197,6 @@ Input: a recurrent pile (see 'sandpile --help' for the format).
 
 Output: the sum of N copies of the input: the identity if N is 0, the input
   itself if N is 1. With --pgm, a picture of it.
-
-Time: at most two additions per binary digit of N.
 
 Example:
 

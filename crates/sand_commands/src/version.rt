@@ -1,4 +1,4 @@
-//! What `sandpile --version` writes: the version, the toolchain that proved the program, and the logic of its proofs.
+//! What `sandpile --version` writes: the version, and the logic of the proofs, which is the same in several kits of Rattle.
 
 ghost use Rattle.std.specs.Prelude.{◌≡◌, ℕ, ◌≤◌, length, take, IfErr, OnOk};
 ghost use Rattle.std.specs.Io.KnownBytes.{Appends};
@@ -17,7 +17,7 @@ pub fn write_version<W: Write>(writer: &mut W) -> Result<(), DeskFault>
     // `tools/try-examples` compares the logic with that of `rt version`.
     write_text(
         writer,
-        b"sandpile 1.0.0, proved with rattle-kit-13f, logic dac8208d650f15bf\n",
+        b"sandpile 1.0.0, proved with Rattle, logic dac8208d650f15bf\n",
     )?;
     Ok(())
 }
