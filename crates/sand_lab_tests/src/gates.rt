@@ -61,32 +61,44 @@ fn a_dropper_a_worker_and_an_observer_meet(rt: HostRuntime) -> Result<(), Fail> 
     Ok(())
 }
 
-// The first tally of an observer, if no thread was released early. It is read after the gate's call for drop `next` and
-// before that drop is made; no drop is made before the gate's call for the tally.
-fn tally_before<R: Threads + Sync>(
+// The first two tallies of an observer, if no thread was released early. Each is read after the gate's call for one of
+// two drops and before that drop is made; no drop is made before the gate's call for the first tally.
+fn tallies_before<R: Threads + Sync>(
     rt: &R,
     alloc: Global,
     drops: u32,
-    next: u32,
-) -> Result<Option<u64>, Fail> {
+    first: u32,
+    second: u32,
+) -> Result<[Option<u64>; 2], Fail> {
     let start = one_site(alloc, 0)?;
     let wish = wish!(drops: drops, observers: 1);
     let holds = [
         Hold::new(dropper(0, 0), observer(0)),
-        Hold::new(observer(0), dropper(0, next)),
-        Hold::new(dropper(0, next), observer(1)),
+        Hold::new(observer(0), dropper(0, first)),
+        Hold::new(dropper(0, first), observer(1)),
+        Hold::new(observer(1), dropper(0, second)),
+        Hold::new(dropper(0, second), observer(2)),
     ];
     let gate = Holds::new(&holds);
     let report = run_gated(rt, alloc, start, wish, &gate)?;
-    let tally = report.tallies(0, 0).first().copied();
+    let tallies = report.tallies(0, 0);
+    let first_two = [tallies.first().copied(), tallies.get(1).copied()];
     drop(report);
-    Ok(if gate.have_held() { tally } else { None })
+    Ok(if gate.have_held() {
+        first_two
+    } else {
+        [None; 2]
+    })
 }
 
 #[test]
 fn an_observer_reads_between_two_drops(rt: HostRuntime) -> Result<(), Fail> {
-    assert_eq!(rt; tally_before(&rt, rt.alloc(), 3, 1)?, Some(1));
-    assert_eq!(rt; tally_before(&rt, rt.alloc(), 40, 20)?, Some(20));
+    let (few, many) = (
+        tallies_before(&rt, rt.alloc(), 3, 1, 2)?,
+        tallies_before(&rt, rt.alloc(), 40, 20, 21)?,
+    );
+    assert_eq!(rt; few, [Some(1), Some(2)]);
+    assert_eq!(rt; many, [Some(20), Some(21)]);
     Ok(())
 }
 
