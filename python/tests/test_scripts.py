@@ -264,6 +264,11 @@ class OfBuild(WithToolchain):
         (lent / "low.rlib/theirs").touch()
         self.assertEqual(self.run_in("./build", "for-rt"), (0, "", ""))
         self.assertTrue((lent / "low.rlib/theirs").exists())
+        shutil.copytree(lent, lent.with_name("of rt"))
+        shutil.rmtree(lent)
+        lent.with_name("of rt").rename(lent)
+        self.assertEqual(self.run_in("./build", "for-rt"), (0, "", "build: `rt` has low\n"))
+        self.assertFalse((lent / "low.rlib/theirs").exists())
 
     def test_the_wheel_is_packed_after_both_are_built(self):
         stand_in(self.top / "tools/wheel", 'echo "wheel $*" >> "$LOG"', 'touch "$1/sandpile-2.whl"; echo sandpile-2.whl')
