@@ -12,9 +12,11 @@ use Rattle.sand_tiles.specs.Places.{bit, height}
 use Rattle.sand_tiles.proofs.Bits.{bit_le}
 use Rattle.sand_fronts.specs.Tiling.{tile_of, place_of}
 use Rattle.sand_model.specs.Underway.{Advances}
+use Rattle.sand_fronts.specs.WaveSizes.{IsOneWave}
 use Rattle.sand_fronts.specs.Waves.{toppled, IsWholeWave, AreAtRest, heights_before}
 use Rattle.sand_fronts.proofs.OnTiles.{place_below, on_tiles_is, height_low}
 use Rattle.sand_fronts.proofs.Waves.{IsUnderWay}
+use Rattle.sand_fronts.proofs.WaveSizes.{covers_of}
 
 -- before the first toppling
 pub first_wave : (g : Grid) (site : ℕ) (τ : ℕ → Tile) → AreAtRest g site τ → site < sites g
@@ -30,8 +32,12 @@ first_wave g site τ rest inside =
           omega (arith, one_at_other site j (λ e. ne (sym e)), no_flow j l, none j);
       at_held = omega
           (arith, one_at_same site, no_flow site inside, height_low (τ (tile_of g site)) (place_of g site));
-      needed = λ w stable j l. omega (arith, none j);
+      needed = λ w covers j l. omega (arith, none j);
     }
+
+-- before a wave the dropped site has 4
+pub has_four : (g : Grid) (site : ℕ) (τ : ℕ → Tile) → 4 ≤ heights_before g site τ site
+has_four g site τ = omega (arith, one_at_same site)
 
 one_at_le : (v : ℕ → ℕ) (i j : ℕ) → 1 ≤ v i → one_at i j ≤ v j
 one_at_le v i j some = grind (arith, nat_tests)
@@ -56,6 +62,18 @@ module _ {g : Grid} {site : ℕ} {ρ τ : ℕ → Tile} (past : HasPassed g site
       let due = past.whole.none_due (tile_of g j) (place_of g j) (place_below g j) in
       grind (arith, past.whole.started, leaves.others j l, past.whole.wave.at_open j l)
 
+  -- it is one wave, by the definition
+  pub one_wave : {k : ℕ → ℕ} → Leaves g site (heights_before g site ρ) τ k
+      → IsOneWave g site (heights_before g site ρ) (toppled g τ) k
+  one_wave {k} leaves = record {
+    due = has_four g site ρ;
+    started = past.whole.started;
+    once = λ j l. bit_le (τ (tile_of g j)).wave (place_of g j);
+    toppled = record { balance = wave_balance leaves };
+    others_rest = λ j l ne. omega (arith, leaves.others j l ne, height_low (τ (tile_of g j)) (place_of g j));
+    needed = past.whole.wave.needed;
+  }
+
   -- the wave was a legal sequence of topplings
   pub wave_advances : {k : ℕ → ℕ} (u v : ℕ → ℕ) → Leaves g site (heights_before g site ρ) τ k
       → ((j : ℕ) → j < sites g → v j ≡ u j + toppled g τ j) → Advances g u (heights_before g site ρ) v k
@@ -77,7 +95,12 @@ module _ {g : Grid} {site : ℕ} {ρ τ : ℕ → Tile} (past : HasPassed g site
                     let same = flow_same g (λ n. u n + (w n - u n)) w (λ n x. omega arith) i m in
                     omega (arith, below i m, flow-add g u (λ n. w n - u n) i);
               } in
-              omega (arith, past.whole.wave.needed (λ i. w i - u i) rest j l);
+              omega (
+                arith,
+                past.whole.wave.needed (λ i. w i - u i)
+                    (covers_of site past.inside (has_four g site ρ) rest) j l,
+                below j l,
+              );
         };
         weight_pays = omega (arith, weight_after g h t k toppled');
         grains_fall = omega (arith, laplacian_sum g h t k toppled');
@@ -102,5 +125,5 @@ module _ {g : Grid} {site : ℕ} {ρ τ : ℕ → Tile} (past : HasPassed g site
             grind (arith, nat_tests, past.whole.started, past.empty, past.whole.wave.at_open j l);
       } in
       let nonzero : flow g t site ≢ 0 = λ none. omega
-      (arith, past.whole.wave.needed (one_at site) (alone none) i li, one_at_other site i (λ e. ni (sym e))) in
+      (arith, past.whole.wave.needed (one_at site) (covers_of site inside (has_four g site ρ) (alone none)) i li, one_at_other site i (λ e. ni (sym e))) in
       omega arith

@@ -1,5 +1,6 @@
 pub mod NeighboursOnTiles
 pub mod OnTiles
+pub mod WaveSizes
 pub mod Waves
 pub mod Rims
 pub mod Gained

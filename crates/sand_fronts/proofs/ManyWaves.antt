@@ -20,11 +20,12 @@ use Rattle.sand_fronts.specs.Tiling.{tiles, tile_of, place_of, on_tiles}
 use Rattle.sand_fronts.specs.TileLists.{IsClear}
 use Rattle.sand_fronts.specs.declared.counts.Counts.{Counts}
 use Rattle.sand_fronts.specs.Waves.{tile_at, toppled, IsWave, IsWholeWave, AreAtRest, heights_before}
+use Rattle.sand_fronts.specs.WaveSizes.{IsOneWave}
 use Rattle.sand_fronts.specs.Counting.{over_wave}
 use Rattle.sand_fronts.specs.Boards.{counts_of, AreCounted}
 use Rattle.sand_fronts.specs.Drops.{heights_on, grown_on, AreOutside, AreQuiet}
 use Rattle.sand_fronts.proofs.OnTiles.{place_below, on_sum, on_below, on_each, height_low}
-use Rattle.sand_fronts.proofs.Ends.{wave_balance, wave_advances, four_again, HasPassed, Leaves}
+use Rattle.sand_fronts.proofs.Ends.{wave_balance, wave_advances, four_again, one_wave, HasPassed, Leaves}
 use Rattle.sand_fronts.proofs.Sums.{sum_on_tiles, sum_below_most}
 
 -- the heights between two waves: if the held site may topple again, it has 4 more than in the planes
@@ -140,6 +141,10 @@ pub record Waved (g : Grid) (site : ℕ) (more : Bool) (τ σ ρ : ℕ → Tile)
   pub all_topplings : topplings g (grown_on g c e) ≡ topplings g (grown_on g c d) + size
   pub all_lost : lost g (grown_on g c e) ≡ lost g (grown_on g c d) + gone
   pub lighter : weight g (heights_now g site more ρ) < weight g (heights_now g site true σ)
+  pub wave : ℕ → ℕ
+  pub one : IsOneWave g site (heights_now g site true σ) wave (heights_now g site more ρ)
+  pub size_is : size ≡ topplings g wave
+  pub some : 1 ≤ size
 
 pub waves_more : {g : Grid} {site : ℕ} {τ σ : ℕ → Tile} {us vs : List Tile} {c : ℕ → Count} {d e : Counts}
     {size gone height : ℕ} → OneMore g site τ σ us vs c d e size gone → height ≡ heights_on g (tile_at vs) site
@@ -183,6 +188,10 @@ waves_more {g} {site} {τ} {σ} {us} {vs} {c} {d} {e} {size} {height = height} w
       all_topplings = omega (arith, wave.size_is);
       all_lost = lost_more g u t v sums ∙ ap (λ n. lost g u + n) (sym wave.gone_is);
       lighter = omega (arith, next.weight_pays, whole.started);
+      wave = t;
+      one = one_wave past leaves;
+      size_is = wave.size_is;
+      some = omega (arith, wave.size_is, part, whole.started);
     }
 
 missing_le : (g : Grid) (j : ℕ) → missing g j ≤ 4

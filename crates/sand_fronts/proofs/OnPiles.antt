@@ -1,9 +1,9 @@
 -- The result of a drop on a pile on tiles, as its contracts see it.
-use Rattle.std.proofs.Common.{ℕ, length, ltb, ◌≡◌, ◌+◌, ◌-◌, ◌*◌, ◌<◌, ◌≤◌, refl, sym, ◌∙◌, ap, subst, arith}
+use Rattle.std.proofs.Common.{ℕ, List, length, ltb, ◌≡◌, ◌+◌, ◌-◌, ◌*◌, ◌<◌, ◌≤◌, refl, sym, ◌∙◌, ap, subst, arith}
 use Rattle.std.specs.Prelude.{slice_index}
 use Rattle.std.proofs.lemmas.Bool.Decides.{nat_tests}
 use Rattle.sand_model.specs.Grid.{Grid, sites, missing}
-use Rattle.sand_model.specs.Sand.{IsSettled, one_at}
+use Rattle.sand_model.specs.Sand.{one_at}
 use Rattle.sand_model.specs.Lists.{one_if}
 use Rattle.sand_model.proofs.Sandpile.{settled_same}
 use Rattle.sand_model.proofs.SumsBelow.{sum_below_same}
@@ -16,14 +16,16 @@ use Rattle.sand_fronts.specs.declared.avalanche.Avalanche.{Avalanche}
 use Rattle.sand_fronts.specs.Tiling.{tile_of, place_of, on_tiles}
 use Rattle.sand_fronts.specs.Marking.{AreToppled, AreSites}
 use Rattle.sand_fronts.specs.Waves.{AreAllOpen}
+use Rattle.sand_fronts.specs.WaveSizes.{HasWaves}
 use Rattle.sand_fronts.specs.Drops.{heights_on, counted_on}
 use Rattle.sand_fronts.specs.Avalanches.{IsAvalanche, has_toppled}
 use Rattle.sand_fronts.specs.Boards.{free_of, tiles_of, counts_of, marks_of, grown, IsBoard, IsSand, AreCounts, CountsSites, HasSettled}
 use Rattle.sand_fronts.specs.declared.reach.Spot.{Spot}
 use Rattle.sand_fronts.specs.Reading.{IsFirstOfEight}
-use Rattle.sand_fronts.specs.TiledPiles.{TiledView, IsTiledPile, IsTiledView, tiled_view, by_site, toppled_between}
+use Rattle.sand_fronts.specs.TiledPiles.{TiledView, IsTiledPile, HasDropped, tiled_view, by_site, toppled_between}
 use Rattle.sand_fronts.proofs.OnTiles.{height_low, place_below}
 use Rattle.sand_fronts.proofs.Eights.{eight_there, first_inside}
+use Rattle.sand_fronts.proofs.WaveSizes.{has_same}
 use Rattle.sand_fronts.proofs.NewPiles.{by_site_at, by_site_le, by_site_long, by_site_view, few_at_sites}
 
 pub avalanche_same : (g : Grid) (site : ℕ) (u v : ℕ → ℕ) (a : Avalanche)
@@ -58,28 +60,17 @@ pub sites_toppled : (g : Grid) (v words : ℕ → ℕ) → AreToppled g v words 
 unfolding on_tiles
 sites_toppled g v words toppled m p low is = let marked = toppled m p low in grind (arith, nat_tests)
 
--- a drop at a site leads from v to w
-abbrev pub Dropped : TiledView → ℕ → TiledView → Avalanche → Type 0
-Dropped v site w a = record {
-  grid : w.grid ≡ v.grid;
-  by_site : IsTiledView w;
-  never_falls : (j : ℕ) → slice_index v.times j ≤ slice_index w.times j;
-  settled : IsSettled v.grid (λ j. slice_index v.heights j + one_at site j) (toppled_between v w)
-      (slice_index w.heights);
-  avalanche : IsAvalanche v.grid site (toppled_between v w) a;
-}
-
 pub dropped : {g i : Grid} {site : ℕ} (s : Sand) {t : Sand} {c d : Counts} {v : TiledView} {a : Avalanche}
     → tiled_view g s c ≡ v → i ≡ g → HasSettled g (λ j. heights_on g (tiles_of s) j + one_at site j) t c d
-    → IsAvalanche g site (grown g c d) a → Dropped v site (tiled_view i t d) a
+    → IsAvalanche g site (grown g c d) a → HasDropped v site a (tiled_view i t d)
 dropped {g} {i} {site} s {t} {c} {d} {v} {a} view shape has is =
     let old = heights_on g (tiles_of s) in let new = heights_on g (tiles_of t) in
     let before = counted_on g (counts_of c) in let after = counted_on g (counts_of d) in
     let moved = toppled_between (tiled_view g s c) (tiled_view g t d) in
     let between : (j : ℕ) → j < sites g → grown g c d j ≡ moved j =
     λ j l. omega (arith, by_site_at g before j l, by_site_at g after j l) in
-    subst (λ x. Dropped x site (tiled_view i t d) a) view
-    (subst (λ x. Dropped (tiled_view g s c) site (tiled_view x t d) a) (sym shape) (record {
+    subst (λ x. HasDropped x site a (tiled_view i t d)) view
+    (subst (λ x. HasDropped (tiled_view g s c) site a (tiled_view x t d)) (sym shape) (record {
       grid = refl;
       by_site = by_site_view g t d;
       never_falls = λ j. by_site_le g before after j
@@ -89,6 +80,20 @@ dropped {g} {i} {site} s {t} {c} {d} {v} {a} view shape has is =
           between (λ j l. sym (by_site_at g new j l)) has.settled;
       avalanche = avalanche_same g site (grown g c d) moved a between is;
     }))
+
+-- the waves of the drop
+pub waves_seen : {g i : Grid} {site number : ℕ} (s t : Sand) (c d : Counts) {v : TiledView}
+    {before after : List ℕ} → tiled_view g s c ≡ v → i ≡ g → site < sites g
+    → HasWaves g site (λ j. heights_on g (tiles_of s) j + one_at site j) (heights_on g (tiles_of t)) number before after
+    → HasWaves v.grid site (λ j. slice_index v.heights j + one_at site j) (slice_index (tiled_view i t d).heights)
+    number before after
+waves_seen {g} {i} {site} {number} s t c d {v} {before} {after} view shape inside has =
+    let old = heights_on g (tiles_of s) in let new = heights_on g (tiles_of t) in
+    subst (λ (x : TiledView). HasWaves x.grid site (λ j. slice_index x.heights j + one_at site j)
+    (slice_index (tiled_view i t d).heights) number before after) view
+    (subst (λ x. HasWaves g site (λ j. slice_index (by_site g old) j + one_at site j)
+    (slice_index (tiled_view x t d).heights) number before after) (sym shape)
+    (has_same inside (λ j l. omega (arith, by_site_at g old j l)) (λ j l. sym (by_site_at g new j l)) has))
 
 pub few_now : (n : ℕ) (g : Grid) (s : Sand) (c : Counts) → 0 < n → CountsSites g c
     → ((j : ℕ) → j < sites g → slice_index (tiled_view g s c).times j < n) → (m p : ℕ) → p < 64

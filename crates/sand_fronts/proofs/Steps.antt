@@ -88,7 +88,7 @@ visited_wave {g} {site} {free = free} {τ} {t = t} {k} {start} {new} {b} s more 
         at_held =
             let pays' = (pays (tile_of g site)).modulo (place_of g site) (place_below g site) in
             omega (arith, flows site from.inside, sums (tile_of g site) (place_of g site));
-        needed = λ w stable j l. omega (arith, sum j, needed_next from s wave begins first w stable visits j l);
+        needed = λ w covers j l. omega (arith, sum j, needed_next from s wave begins first w covers visits j l);
       },
       sum,
     )

@@ -64,7 +64,6 @@ turn_none {g} {site} free {τ} open' rest inside = record {
   from = record {
     inside = inside;
     low = first_low g site τ;
-    high = omega (arith, one_at_same site);
     all_open = open';
   };
   wave = first_wave g site τ rest inside;

@@ -3,9 +3,9 @@ use Rattle.std.proofs.Common.{ℕ, true, cond, ◌≡◌, ◌≢◌, ◌+◌, �
 use Rattle.std.proofs.lemmas.Bool.{cases_eq, eq-eqb, ne_eqb}
 use Rattle.std.proofs.lemmas.Bool.Decides.{nat_tests}
 use Rattle.sand_model.specs.Grid.{Grid, sites}
-use Rattle.sand_model.specs.Sand.{Stabilises, flow, one_at}
+use Rattle.sand_model.specs.Sand.{flow, one_at}
 use Rattle.sand_model.proofs.Flow.{flow_le, flow_same, flow-add}
-use Rattle.sand_model.proofs.Sandpile.{flow_ones, least_action}
+use Rattle.sand_model.proofs.Sandpile.{flow_ones}
 use Rattle.sand_model.proofs.SumsBelow.{one_at_other}
 use Rattle.sand_tiles.specs.declared.tile.Tile.{Tile}
 use Rattle.sand_tiles.specs.Places.{bit, height, had, around, unused, IsReady, Calms, Visits}
@@ -13,6 +13,7 @@ use Rattle.sand_tiles.proofs.Bits.{bit_le}
 use Rattle.sand_tiles.proofs.Around.{around_le}
 use Rattle.sand_fronts.specs.Tiling.{tile_of, place_of, is_site, site_on, on_tiles}
 use Rattle.sand_fronts.specs.Waves.{at_site, toppled, only, AreOpen, IsWave, Gains}
+use Rattle.sand_fronts.specs.WaveSizes.{Covers}
 use Rattle.sand_fronts.proofs.NeighboursOnTiles.{flow_on_tiles}
 use Rattle.sand_fronts.proofs.OnTiles.{place_below, there_again, at_on, on_tiles_blank, on_tiles_le, on_tiles_is, on_site, off_site, on_each, height_low}
 
@@ -37,7 +38,6 @@ around_some g v j l =
 pub record IsStart (g : Grid) (site : ℕ) (h : ℕ → ℕ) (free : ℕ → ℕ) : Type 0 where
   pub inside : site < sites g
   pub low : (j : ℕ) → j < sites g → j ≢ site → h j ≤ 3
-  pub high : 4 ≤ h site
   pub all_open : AreOpen g site free
 
 -- the places of tile k that start: that of the dropped site, or none
@@ -51,7 +51,7 @@ pub record IsUnderWay (g : Grid) (site : ℕ) (h : ℕ → ℕ) (τ : ℕ → Ti
       → had (τ (tile_of g j)) (place_of g j) + away (tile_of g j) (place_of g j) ≡ h j + flow g (toppled g τ) j
   pub at_held : (height (τ (tile_of g site)) (place_of g site) + away (tile_of g site) (place_of g site)) % 4
       ≡ (h site + flow g (toppled g τ) site) % 4
-  pub needed : (w : ℕ → ℕ) → Stabilises g h w → (j : ℕ) → j < sites g → toppled g τ j ≤ w j
+  pub needed : (w : ℕ → ℕ) → Covers g site h w → (j : ℕ) → j < sites g → toppled g τ j ≤ w j
 
 pub arrived : {g : Grid} {site : ℕ} {h : ℕ → ℕ} {τ : ℕ → Tile} → IsUnderWay g site h τ (λ m p. 0) → IsWave g site h τ
 arrived {g} {site} {τ = τ} wave = record {
@@ -112,17 +112,15 @@ module _ {g : Grid} {site : ℕ} {h free : ℕ → ℕ} (from : IsStart g site h
 
   module _ {τ : ℕ → Tile} {away : ℕ → ℕ → ℕ} {k start : ℕ} (s : ℕ) (wave : IsUnderWay g site h τ away)
       (begins : Starts g site s k start) (first : toppled g τ site + s ≤ 1)
-      (w : ℕ → ℕ) (stable : Stabilises g h w) where
-    -- whatever stabilises the pile leaves no 4 in this tile
+      (w : ℕ → ℕ) (covers : Covers g site h w) where
+    -- whatever covers the heights leaves no 4 in this tile
     calm : Calms (τ k) (free k) start (on_tiles g (λ j. w j - toppled g τ j) k)
     calm =
         let t = toppled g τ in let rest : ℕ → ℕ = λ j. w j - t j in
-        let below = wave.needed w stable in
+        let below = wave.needed w covers in
         record {
           start_in = λ p low.
-              let more = least_action g h t w site 1 from.inside stable below in
-              let high = from.high in
-              let some : s ≤ w site - t site = grind arith in
+              let some : s ≤ w site - t site = omega (arith, first, covers.started) in
               let most = on_tiles_le g (λ j. s * one_at site j) rest k p low
               (λ j l. let e = cases_eq site j in grind (arith, nat_tests)) in
               omega (arith, begins p low);
@@ -130,7 +128,7 @@ module _ {g : Grid} {site : ℕ} {h free : ℕ → ℕ} (from : IsStart g site h
               let yes = open_site g site free k p from.all_open low is in
               let at = there_again g k p low yes.0 in let j = site_on g k p in
               let open' = rw (at.1, at.2) at (wave.at_open j at.0 yes.1) in
-              let three = stable.at_most_three j at.0 in
+              let three = covers.at_most_three j at.0 yes.1 in
               let some = rw (at.1, at.2) at (around_some g rest j at.0) in
               let site = on_site g rest k p yes.0 in
               let same = flow_same g (λ i. t i + rest i) w (λ i l. omega (arith, below i l)) j at.0 in
@@ -144,7 +142,7 @@ module _ {g : Grid} {site : ℕ} {h free : ℕ → ℕ} (from : IsStart g site h
     needed_next visits j l =
         let rest : ℕ → ℕ = λ i. w i - toppled g τ i in
         let least = visits.least (on_tiles g rest k) calm (place_of g j) (place_below g j) in
-        let value = at_on g rest j l in let below = wave.needed w stable j l in
+        let value = at_on g rest j l in let below = wave.needed w covers j l in
         grind (arith, nat_tests)
 
   -- the grains under way arrive
@@ -166,5 +164,5 @@ module _ {g : Grid} {site : ℕ} {h free : ℕ → ℕ} (from : IsStart g site h
         at_held =
             let modulo' = gains.modulo (tile_of g site) (place_of g site) (place_below g site) in
             omega (arith, wave.at_held, flows site from.inside);
-        needed = λ w stable j l. omega (arith, same j, wave.needed w stable j l);
+        needed = λ w covers j l. omega (arith, same j, wave.needed w covers j l);
       }

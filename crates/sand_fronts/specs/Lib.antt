@@ -1,4 +1,5 @@
 pub mod Tiling
+pub mod WaveSizes
 pub mod Waves
 pub mod Filling
 pub mod TileLists

@@ -3,11 +3,12 @@
 use Rattle.std.specs.Prelude.{ℕ, List, length, slice_index_or, slice_set, ◌≡◌, ◌≢◌, ◌+◌, ◌-◌, ◌*◌, ◌%◌, ◌^◌, ◌<◌, ◌≤◌, if◌then◌else◌, ◌==◌}
 use Rattle.sand_model.specs.Grid.{Grid, IsGrid, sites}
 use Rattle.sand_model.specs.declared.shape.Edge.TheVariants.{Open}
-use Rattle.sand_model.specs.Sand.{Stabilises, flow, one_at}
+use Rattle.sand_model.specs.Sand.{flow, one_at}
 use Rattle.sand_tiles.specs.declared.tile.Tile.{Tile}
 use Rattle.sand_tiles.specs.Places.{bit, height, had, Visits}
 use Rattle.sand_fronts.specs.Tiling.{pitch, tiles, tile_of, place_of, on_tiles, over_north, over_south, over_west, over_east, to_west, to_east, shift_west, shift_east}
 use Rattle.sand_fronts.specs.Drops.{AreQuiet}
+use Rattle.sand_fronts.specs.WaveSizes.{Covers}
 use Rattle.sand_fronts.specs.declared.sides.Beside.{Beside}
 use Rattle.sand_fronts.specs.declared.board.DropSite.{DropSite}
 
@@ -35,7 +36,7 @@ pub record IsWave (g : Grid) (site : ℕ) (h : ℕ → ℕ) (τ : ℕ → Tile) 
   pub inside : (k p : ℕ) → p < 64 → bit (τ k).wave p ≡ on_tiles g (toppled g τ) k p
   pub at_open : (j : ℕ) → j < sites g → j ≢ site → had (τ (tile_of g j)) (place_of g j) ≡ h j + flow g (toppled g τ) j
   pub at_held : height (τ (tile_of g site)) (place_of g site) ≡ (h site + flow g (toppled g τ) site) % 4
-  pub needed : (w : ℕ → ℕ) → Stabilises g h w → (j : ℕ) → j < sites g → toppled g τ j ≤ w j
+  pub needed : (w : ℕ → ℕ) → Covers g site h w → (j : ℕ) → j < sites g → toppled g τ j ≤ w j
 
 -- a tile by its number, and an empty one past the end
 abbrev pub tile_at : List Tile → ℕ → Tile

@@ -11,6 +11,7 @@ ghost use Rattle.sand_model.specs.Grid.{Grid, IsGrid, sites};
 ghost use Rattle.sand_model.specs.Sand.{IsSettled, one_at, topplings, lost};
 ghost use Rattle.sand_tiles.specs.Counts.{counted};
 ghost use Rattle.sand_fronts.specs.Tiling.{tiles};
+ghost use Rattle.sand_fronts.specs.WaveSizes.{HasWaves};
 ghost use Rattle.sand_fronts.specs.Waves.{AreAllOpen};
 ghost use Rattle.sand_fronts.specs.Marking.{AreToppled, AreSites};
 ghost use Rattle.sand_fronts.specs.Drops.{heights_on, AreQuiet};
@@ -18,7 +19,7 @@ ghost use Rattle.sand_fronts.specs.WrittenBack.{AreLow, risen};
 ghost use Rattle.sand_fronts.specs.Avalanches.{IsAvalanche};
 ghost use Rattle.sand_fronts.specs.Boards.{tiles_of, free_of, counts_of, marks_of, grown, IsBoard, IsSand, HasSettled};
 ghost use Rattle.sand_fronts.specs.Reading.{IsFirstOfEight, AreOfEight};
-ghost use Rattle.sand_fronts.specs.TiledPiles.{IsTiledPile, IsTiledView, by_site, toppled_between};
+ghost use Rattle.sand_fronts.specs.TiledPiles.{IsTiledPile, IsTiledView, HasDropped, by_site, toppled_between};
 
 use crate::avalanche::Avalanche;
 use crate::board::{Board, DropSite};
@@ -37,7 +38,14 @@ use std::alloc::{AllocError, Global};
 use std::marker::Model;
 
 // Drops a grain at a site, and topples until the pile is stable. Counts the topplings of each site, and marks the sites.
-fn topple_grain(board: &mut Board, sand: &mut Sand, counts: &mut Counts, site: usize) -> Total
+// Writes the sizes of the waves to a list, as many as it has room for, and returns their number, too.
+fn topple_grain(
+    board: &mut Board,
+    sand: &mut Sand,
+    counts: &mut Counts,
+    site: usize,
+    sizes: &mut [u64],
+) -> (Total, usize)
     requires site { site < sites board.old.shape }
     requires pile { IsTiledPile board.old sand.old counts.old }
     requires bound { (m p : ℕ) → p < 64 → counted (counts_of counts.old m) p < 2 ^ 60 }
@@ -46,9 +54,11 @@ fn topple_grain(board: &mut Board, sand: &mut Sand, counts: &mut Counts, site: u
     ensures all_open { AreAllOpen board.old.shape (free_of board.new) }
     ensures settled { HasSettled board.old.shape (λ j. heights_on board.old.shape (tiles_of sand.old) j + one_at site j)
         sand.new counts.old counts.new }
+    ensures waves { HasWaves board.old.shape site (λ j. heights_on board.old.shape (tiles_of sand.old) j + one_at site j)
+        (heights_on board.old.shape (tiles_of sand.new)) result.1 sizes.old sizes.new }
     ensures marked { AreToppled board.old.shape (grown board.old.shape counts.old counts.new) (marks_of counts.new) }
-    ensures size { result.size ≡ topplings board.old.shape (grown board.old.shape counts.old counts.new) }
-    ensures lost { result.lost ≡ lost board.old.shape (grown board.old.shape counts.old counts.new) }
+    ensures size { result.0.size ≡ topplings board.old.shape (grown board.old.shape counts.old counts.new) }
+    ensures lost { result.0.lost ≡ lost board.old.shape (grown board.old.shape counts.old counts.new) }
 {
     let (tile, place) = find(board.shape, site);
     let grain = set_of(place);
@@ -56,12 +66,12 @@ fn topple_grain(board: &mut Board, sand: &mut Sand, counts: &mut Counts, site: u
     let others = whole ^ grain;
     receive(&mut sand.tiles[tile], grain, others);
     if height_at(&sand.tiles[tile], place) != 0 {
-        return NOTHING;
+        return (NOTHING, 0);
     }
     board.free[tile] = others;
-    let total = topple_all(board, sand, counts, DropSite { site, tile, place });
+    let (total, waves) = topple_all(board, sand, counts, DropSite { site, tile, place }, sizes);
     board.free[tile] = whole;
-    total
+    (total, waves)
 }
 
 // Adds a grain at a site that has fewer than 3, so that nothing topples.
@@ -170,9 +180,29 @@ impl TiledPile {
             (toppled_between self.old self.new) (slice_index self.new.heights) }
         ensures avalanche { IsAvalanche self.old.grid site (toppled_between self.old self.new) result }
     {
+        let (avalanche, _) = self.drop_with_waves(site, &mut []);
+        avalanche
+    }
+
+    /// The same, and writes the size of each wave to a list, as many as it has room for. Returns the avalanche and the
+    /// number of waves.
+    pub fn drop_with_waves(&mut self, site: usize, sizes: &mut [u64]) -> (Avalanche, usize)
+        requires site { site < sites self.old.grid }
+        requires bound { (j : ℕ) → j < sites self.old.grid → slice_index self.old.times j < 2 ^ 60 }
+        ensures dropped { HasDropped self.old site result.0 self.new }
+        ensures waves { HasWaves self.old.grid site (λ j. slice_index self.old.heights j + one_at site j)
+            (slice_index self.new.heights) result.1 sizes.old sizes.new }
+    {
         let shape = self.board.shape;
-        let total = topple_grain(&mut self.board, &mut self.sand, &mut self.counts, site);
-        avalanche_of(shape, site, total, &mut self.counts.marks)
+        let (total, waves) = topple_grain(
+            &mut self.board,
+            &mut self.sand,
+            &mut self.counts,
+            site,
+            sizes,
+        );
+        let avalanche = avalanche_of(shape, site, total, &mut self.counts.marks);
+        (avalanche, waves)
     }
 
     /// The same on a pile where no topplings are counted, with lists of its heights and topplings by site: brings both up
@@ -198,7 +228,13 @@ impl TiledPile {
             add_grain(shape, &mut self.sand, site);
             return calm(site);
         }
-        let total = topple_grain(&mut self.board, &mut self.sand, &mut self.counts, site);
+        let (total, _) = topple_grain(
+            &mut self.board,
+            &mut self.sand,
+            &mut self.counts,
+            site,
+            &mut [],
+        );
         write_back(&self.board, &self.sand, &mut self.counts, heights, odometer);
         avalanche_of(shape, site, total, &mut self.counts.marks)
     }

@@ -9,6 +9,7 @@ use Rattle.sand_fronts.proofs.OnTiles.{place_below}
 use Rattle.sand_fronts.proofs.Counted.{marked_none, marked_more}
 use Rattle.sand_fronts.proofs.OneSite.{height_read}
 use Rattle.sand_fronts.proofs.Marked.{area_is}
+use Rattle.sand_fronts.proofs.WaveSizes.{has_none, has_more}
 use Rattle.sand_fronts.proofs.ManyWaves.{OneMore, waves_begin, waves_more, waves_end, wave_lost, none_lost, few_yet, few_counted, none_grown}
 use Rattle.sand_fronts.proofs.dropping.topple_all.Goals.{After-count_wave-wave, After-height_at}
 use Rattle.sand_fronts.proofs.dropping.topple_all.Goals as goal
@@ -36,6 +37,8 @@ waves-init c =
       counts = c.requires.counts;
       marked = marked_none counts (marks_of c.args.counts.now);
       passed = waves_begin g c.args.drop.site (tiles_of c.args.sand.now) counts c.requires.rest;
+      waves = has_none c.args.sizes.now (λ j l. refl);
+      few = omega arith;
       size = none_grown g counts;
       lost = none_lost g counts;
     }
@@ -66,6 +69,14 @@ pub overflow_add-total-in-waves : goal.overflow_add-total-in-waves
 overflow_add-total-in-waves c =
     let next = waves_more (wave (goal.at.overflow_add-total-in-waves c).After-count_wave-wave) refl in
     omega (arith, (few_yet c.requires.board.beside.sides next.waves).1, c.waves.invariant.lost)
+
+pub overflow_add-number : goal.overflow_add-number
+overflow_add-number c = omega (
+  arith,
+  c.waves.invariant.few,
+  c.waves.invariant.size,
+  (few_yet c.requires.board.beside.sides c.waves.invariant.passed).0,
+)
 
 height_is : (c : After-height_at) → c.height_at.result
     ≡ heights_on c.args.board.now.shape (tiles_of c.count_wave-wave.new.sand) c.args.drop.site
@@ -99,6 +110,9 @@ waves-preserved c =
       };
       marked = marked_more c.waves.invariant.marked counted.marked;
       passed = next.waves;
+      waves = rw c.note.ensures (has_more c.requires.drop.inside (rw c.waves-test.true at c.waves.invariant.waves)
+          next.one next.size_is);
+      few = omega (arith, c.waves.invariant.few, next.some);
       size = omega (arith, c.waves.invariant.size, next.all_topplings);
       lost = omega (arith, c.waves.invariant.lost, next.all_lost);
     }
@@ -113,3 +127,6 @@ returns-clause-settled c =
       settled = waves_end passed;
       counted = passed.counts;
     }
+
+pub returns-clause-waves : goal.returns-clause-waves
+returns-clause-waves c = rw c.waves-test.false at c.waves.invariant.waves

@@ -1,5 +1,7 @@
-use Rattle.std.proofs.Common.{◌≡◌}
+use Rattle.std.proofs.Common.{◌≡◌, ◌≤◌}
 use Rattle.sand_model.specs.Sand.{topplings, lost, weight}
+use Rattle.sand_fronts.specs.Waves.{heights_before}
+use Rattle.sand_fronts.specs.WaveSizes.{HasWaves}
 use Rattle.sand_fronts.specs.Marking.{AreMarked}
 use Rattle.sand_fronts.specs.Boards.{tiles_of, counts_of, marks_of, grown, IsSand, AreCounts}
 use Rattle.sand_fronts.proofs.ManyWaves.{heights_now, AreWaves}
@@ -12,6 +14,10 @@ invariant-waves l = record {
   marked : AreMarked (counts_of l.fn.counts) (counts_of l.counts) (marks_of l.fn.counts) (marks_of l.counts);
   passed : AreWaves l.fn.board.shape l.fn.drop.site l.more (tiles_of l.fn.sand)
       (tiles_of l.sand) (counts_of l.fn.counts) (counts_of l.counts);
+  waves : HasWaves l.fn.board.shape l.fn.drop.site
+      (heights_before l.fn.board.shape l.fn.drop.site (tiles_of l.fn.sand))
+      (heights_now l.fn.board.shape l.fn.drop.site l.more (tiles_of l.sand)) l.number l.fn.sizes l.sizes;
+  few : l.number ≤ l.total.size;
   size : l.total.size ≡ topplings l.fn.board.shape (grown l.fn.board.shape l.fn.counts l.counts);
   lost : l.total.lost ≡ lost l.fn.board.shape (grown l.fn.board.shape l.fn.counts l.counts);
 }

@@ -15,6 +15,7 @@ use Rattle.sand_fronts.proofs.Counted.{marked_none}
 use Rattle.sand_fronts.proofs.ManyWaves.{none_grown, none_lost, none_counted}
 use Rattle.sand_fronts.proofs.Marked.{marked_word}
 use Rattle.sand_fronts.proofs.OneSite.{height_read}
+use Rattle.sand_fronts.proofs.WaveSizes.{has_none, has_same}
 use Rattle.sand_fronts.proofs.OneGrain.{IsWordOf, without, GetsGrain, few_before, grain_added, calm_quiet, calm_settled, due_heights, taken_out, put_back}
 use Rattle.sand_fronts.proofs.tiled_pile.topple_grain.Goals.{After-receive, After-height_at, After-index-whole}
 use Rattle.sand_fronts.proofs.tiled_pile.topple_grain.Goals as goal
@@ -80,19 +81,20 @@ returns-then-height_at-ne0 c =
       };
       marked = λ m p low. marked_word g counts counts marks marks m p low (marked_none counts marks)
           c.requires.pile.unmarked (none_counted g counts);
+      waves = has_none c.args.sizes.now (grain_added gets few);
       size = none_grown g counts;
       lost = none_lost g counts;
     }
 
 -- ---- the site has 4
 
-pub topple_all-total-requires-clause-all_open : goal.topple_all-total-requires-clause-all_open
-topple_all-total-requires-clause-all_open c =
-    taken_out (word_of (goal.at.topple_all-total-requires-clause-all_open c).After-index-whole)
+pub topple_all-waves-requires-clause-all_open : goal.topple_all-waves-requires-clause-all_open
+topple_all-waves-requires-clause-all_open c =
+    taken_out (word_of (goal.at.topple_all-waves-requires-clause-all_open c).After-index-whole)
 
-pub topple_all-total-requires-clause-rest : goal.topple_all-total-requires-clause-rest
-topple_all-total-requires-clause-rest c =
-    let d = goal.at.topple_all-total-requires-clause-rest c in
+pub topple_all-waves-requires-clause-rest : goal.topple_all-waves-requires-clause-rest
+topple_all-waves-requires-clause-rest c =
+    let d = goal.at.topple_all-waves-requires-clause-rest c in
     record {
       quiet = calm_quiet (gets d.After-receive);
       empty = sym (height_is d.After-height_at) ∙ c.if-height_at-ne0.false;
@@ -103,9 +105,9 @@ returns c =
     let d = goal.at.returns c in let g = c.args.board.now.shape in
     let counts = counts_of c.args.counts.now in
     let new = tile_at (set c.args.sand.now.tiles.items c.find-tile.result.0 c.receive.new.tile) in
-    let left = heights_on g (tiles_of c.topple_all-total.new.sand) in
-    let v = grown g c.args.counts.now c.topple_all-total.new.counts in
-    let all = c.topple_all-total.ensures in
+    let left = heights_on g (tiles_of c.topple_all-waves.new.sand) in
+    let v = grown g c.args.counts.now c.topple_all-waves.new.counts in
+    let all = c.topple_all-waves.ensures in
     let others = bit_xor c.index-whole.result.now c.set_of-grain.result in
     record {
       shape = refl;
@@ -122,8 +124,11 @@ returns c =
             (λ i l. refl) (λ i l. refl) all.settled.settled;
         counted = all.settled.counted;
       };
-      marked = λ m p low. marked_word g counts (counts_of c.topple_all-total.new.counts) (marks_of c.args.counts.now)
-          (marks_of c.topple_all-total.new.counts) m p low all.marked c.requires.pile.unmarked all.settled.counted;
+      marked = λ m p low. marked_word g counts (counts_of c.topple_all-waves.new.counts) (marks_of c.args.counts.now)
+          (marks_of c.topple_all-waves.new.counts) m p low all.marked c.requires.pile.unmarked all.settled.counted;
+      waves = has_same c.requires.site
+          (due_heights (gets d.After-receive) (sym (height_is d.After-height_at) ∙ c.if-height_at-ne0.false))
+          (λ j l. refl) all.waves;
       size = all.size;
       lost = all.lost;
     }

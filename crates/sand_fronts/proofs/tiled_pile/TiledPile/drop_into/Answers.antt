@@ -4,7 +4,7 @@ use Rattle.sand_fronts.specs.Boards.{counts_of}
 use Rattle.sand_fronts.proofs.NewPiles.{counts_no_site}
 use Rattle.sand_fronts.proofs.OnPiles.{pile_after, sites_toppled}
 use Rattle.sand_fronts.proofs.DropsInto.{Before, before, calm_into, few_toppled, only_marked, topples_into}
-use Rattle.sand_fronts.proofs.tiled_pile.TiledPile.drop_into.Goals.{After-self, After-add_grain, After-topple_grain-total, After-avalanche_of}
+use Rattle.sand_fronts.proofs.tiled_pile.TiledPile.drop_into.Goals.{After-self, After-add_grain, After-topple_grain, After-avalanche_of}
 use Rattle.sand_fronts.proofs.tiled_pile.TiledPile.drop_into.Goals as goal
 
 at : (c : After-self) → Before c.self.inside.board.shape c.args.site c.self.inside.sand c.self.inside.counts
@@ -12,12 +12,12 @@ at : (c : After-self) → Before c.self.inside.board.shape c.args.site c.self.in
 at c = before c.self.view_is c.self.invariant.at_sites c.requires.site c.requires.uncounted c.requires.heights
     c.requires.low c.requires.odometer_each c.requires.bound
 
-pub topple_grain-total-requires-clause-site : goal.topple_grain-total-requires-clause-site
-topple_grain-total-requires-clause-site c = (at (goal.at.topple_grain-total-requires-clause-site c).After-self).inside
+pub topple_grain-requires-clause-site : goal.topple_grain-requires-clause-site
+topple_grain-requires-clause-site c = (at (goal.at.topple_grain-requires-clause-site c).After-self).inside
 
-pub topple_grain-total-requires-clause-bound : goal.topple_grain-total-requires-clause-bound
-topple_grain-total-requires-clause-bound c m p low =
-    omega (arith, (at (goal.at.topple_grain-total-requires-clause-bound c).After-self).none m p low)
+pub topple_grain-requires-clause-bound : goal.topple_grain-requires-clause-bound
+topple_grain-requires-clause-bound c m p low =
+    omega (arith, (at (goal.at.topple_grain-requires-clause-bound c).After-self).none m p low)
 
 pub bounds-heights-site : goal.bounds-heights-site
 bounds-heights-site c = (at (goal.at.bounds-heights-site c).After-self).within
@@ -59,7 +59,7 @@ returns-then-heights-site-lt3 c = calm_into (at (goal.at.returns-then-heights-si
 pub write_back-requires : goal.write_back-requires
 write_back-requires c =
     let before = at (goal.at.write_back-requires c).After-self in
-    let is = c.topple_grain-total.ensures in
+    let is = c.topple_grain.ensures in
     record {
       board = is.board;
       all_open = rw is.shape is.all_open;
@@ -73,7 +73,7 @@ write_back-requires c =
 
 pub avalanche_of-requires : goal.avalanche_of-requires
 avalanche_of-requires c =
-    let is = c.topple_grain-total.ensures in
+    let is = c.topple_grain.ensures in
     let before = c.self.invariant.board.beside in
     record {
       site = (at (goal.at.avalanche_of-requires c).After-self).inside;
@@ -84,7 +84,7 @@ avalanche_of-requires c =
 
 pub invariant_of-self-2 : goal.invariant_of-self-2
 invariant_of-self-2 c =
-    let is = c.topple_grain-total.ensures in let each = is.settled.counts in
+    let is = c.topple_grain.ensures in let each = is.settled.counts in
     let written = c.write_back.ensures.written in
     pile_after is.shape is.board is.all_open is.settled
     (record {
@@ -98,7 +98,7 @@ invariant_of-self-2 c =
 
 pub returns : goal.returns
 returns c =
-    let is = c.topple_grain-total.ensures in
+    let is = c.topple_grain.ensures in
     topples_into (at (goal.at.returns c).After-self) is.settled (rw is.shape at c.write_back.ensures.heights)
     (rw is.shape at c.write_back.ensures.written)
     is.marked (omega (arith, c.if-heights-site-lt3.false)) is.shape
