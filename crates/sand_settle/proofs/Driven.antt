@@ -1,5 +1,5 @@
 -- A pile driven by fronts, before and after a drop.
-use Rattle.std.proofs.Common.{ℕ, [], ◌≡◌, ◌+◌, ◌^◌, ◌<◌, ◌≤◌, refl, sym, ◌∙◌, ap, subst, arith, sum}
+use Rattle.std.proofs.Common.{ℕ, List, [], length, take, ◌≡◌, ◌+◌, ◌^◌, ◌<◌, ◌≤◌, refl, sym, ◌∙◌, ap, subst, arith, sum}
 use Rattle.std.specs.Prelude.{slice_index}
 use Rattle.std.proofs.lemmas.List.{ext_get_or}
 use Rattle.sand_model.specs.Grid.{sites}
@@ -7,10 +7,11 @@ use Rattle.sand_model.specs.Sand.{IsSettled, one_at}
 use Rattle.sand_model.specs.Piles.{PileView, IsPile, height_of, most_grains}
 use Rattle.sand_model.proofs.Sandpile.{settled_same}
 use Rattle.sand_model.proofs.Bounds.{at_most_sum_below}
-use Rattle.sand_fronts.specs.TiledPiles.{TiledView, IsTiledView, by_site, toppled_between}
+use Rattle.sand_fronts.specs.TiledPiles.{TiledView, IsTiledView, HasDropped, by_site, toppled_between}
 use Rattle.sand_fronts.proofs.OnPiles.{avalanche_same}
+use Rattle.sand_fronts.proofs.WaveSizes.{waves_add_up, written_whole}
 use Rattle.sand_fronts.proofs.NewPiles.{by_site_at, by_site_le, by_site_long}
-use Rattle.sand_settle.specs.Avalanches.{Avalanche, IsAvalanche}
+use Rattle.sand_settle.specs.Avalanches.{Avalanche, IsAvalanche, HasWaves}
 use Rattle.sand_settle.specs.Settling.{SettledView, IsSettledRecord, IsSomeSettledRecord, odometer_of}
 use Rattle.sand_settle.specs.Drops.{IsAfter, IsPaid, TakesGrain, one_view, topplings_between}
 use Rattle.sand_settle.specs.Driven.{driven_record, IsDriven}
@@ -86,11 +87,9 @@ pub record DropsOn (r : SettledView) (t u : TiledView) (site : ℕ) (f : Avalanc
 
 pub drops_on : {r : SettledView} {t u : TiledView} {site : ℕ} {f : Avalanche} {number all gone grains : ℕ}
     → IsDriven r t number all gone grains → site < sites r.pile.grid → grains < most_grains
-    → u.grid ≡ t.grid → IsTiledView u → ((j : ℕ) → slice_index t.times j ≤ slice_index u.times j)
-    → IsSettled t.grid (λ j. slice_index t.heights j + one_at site j) (toppled_between t u) (slice_index u.heights)
-    → IsAvalanche t.grid site (toppled_between t u) f
+    → HasDropped t site f u
     → DropsOn r t u site f number all gone grains
-drops_on {r} {t} {u} {site} {f} {all = all} {gone = gone} driven inside room grid by_site rises settled fall =
+drops_on {r} {t} {u} {site} {f} {all = all} {gone = gone} driven inside room has =
     let g = r.pile.grid in
     let s : ℕ → ℕ = λ j. slice_index t.heights j + one_at site j in
     let before : ℕ → ℕ = λ j. slice_index r.odometer j + slice_index t.times j in
@@ -101,15 +100,15 @@ drops_on {r} {t} {u} {site} {f} {all = all} {gone = gone} driven inside room gri
     λ j l. omega (arith, by_site_at g before j l, by_site_at g after j l) in
     let fell : IsAvalanche g site (topplings_between p q) f =
     avalanche_same g site (toppled_between t u) (topplings_between p q) f between
-    (subst (λ h. IsAvalanche h site (toppled_between t u) f) driven.one_grid fall) in
+    (subst (λ h. IsAvalanche h site (toppled_between t u) f) driven.one_grid has.avalanche) in
     let taken : TakesGrain p site q = record {
       grid = refl;
-      heights_each = by_site.heights_each ∙ ap sites grid ∙ ap sites driven.one_grid;
+      heights_each = has.by_site.heights_each ∙ ap sites has.grid ∙ ap sites driven.one_grid;
       odometer_each = by_site_long g after;
-      never_falls = λ j. by_site_le g before after j (λ l. omega (arith, rises j));
+      never_falls = λ j. by_site_le g before after j (λ l. omega (arith, has.never_falls j));
       settled = settled_same g s s (toppled_between t u) (topplings_between p q) (slice_index u.heights)
           (slice_index u.heights) (λ j l. refl) between (λ j l. refl)
-          (subst (λ h. IsSettled h s (toppled_between t u) (slice_index u.heights)) driven.one_grid settled);
+          (subst (λ h. IsSettled h s (toppled_between t u) (slice_index u.heights)) driven.one_grid has.settled);
       more_topplings = ap (λ m. all + m) fell.size;
       more_lost = ap (λ m. gone + m) fell.all_lost;
     } in
@@ -117,10 +116,38 @@ drops_on {r} {t} {u} {site} {f} {all = all} {gone = gone} driven inside room gri
       avalanche = fell;
       taken = taken;
       driven = record {
-        one_grid = grid ∙ driven.one_grid;
+        one_grid = has.grid ∙ driven.one_grid;
         paid = paid_after driven.paid inside (omega (arith, room, driven.all_grains)) taken;
         settled = some_record_after driven.settled taken;
         all_grains = omega (arith, driven.all_grains, grains_after driven.paid inside taken);
         bound = omega (arith, driven.bound);
       };
+    }
+
+-- the waves of the drop, if its avalanche is f
+pub record WavesOn (r : SettledView) (t u : TiledView) (site n : ℕ) (f : Avalanche) (all gone : ℕ)
+    (before after : List ℕ) : Type 0 where
+  pub waves : HasWaves r.pile.grid site (λ j. slice_index t.heights j + one_at site j) (slice_index u.heights)
+      n before after
+  pub one_each : n
+      ≡ topplings_between (driven_record r t all gone) (driven_record r u (all + f.size) (gone + f.lost)) site
+  pub sum_of_sizes : n ≤ length before → sum (take n after) ≡ f.size
+
+pub waves_on : {r : SettledView} {t u : TiledView} {site n : ℕ} {f : Avalanche} {number all gone grains : ℕ}
+    {before after : List ℕ}
+    → IsDriven r t number all gone grains → site < sites r.pile.grid → DropsOn r t u site f number all gone grains
+    → HasWaves t.grid site (λ j. slice_index t.heights j + one_at site j) (slice_index u.heights) n before after
+    → WavesOn r t u site n f all gone before after
+waves_on {r} {t} {u} {site} {n} {f} {all = all} {gone = gone} {before = before} {after = after} driven inside dropped has =
+    let g = r.pile.grid in
+    let s : ℕ → ℕ = λ j. slice_index t.heights j + one_at site j in
+    let v = topplings_between (driven_record r t all gone) (driven_record r u (all + f.size) (gone + f.lost)) in
+    let waves = subst (λ h. HasWaves h site s (slice_index u.heights) n before after) driven.one_grid has in
+    let up = waves_add_up g site s v (slice_index u.heights) waves.sizes inside waves.lead dropped.taken.settled in
+    let each = waves.each in
+    record {
+      waves = waves;
+      one_each = omega (arith, up.0);
+      sum_of_sizes = λ room. ap sum (ap (λ k. take k after) (sym each) ∙ written_whole waves.written (omega arith)) ∙ up.1
+          ∙ sym dropped.avalanche.size;
     }

@@ -1,9 +1,10 @@
 -- The laws of settled records and of the pile of one thread.
-use Rattle.std.specs.Prelude.{ℕ, ◌≡◌, ◌+◌, ◌<◌, List, [], sum}
+use Rattle.std.specs.Prelude.{ℕ, ◌≡◌, ◌+◌, ◌<◌, List, [], length, sum}
 use Rattle.sand_model.specs.Grid.{Grid, sites}
-use Rattle.sand_model.specs.Sand.{grains, IsStable, IsSettled}
+use Rattle.sand_model.specs.Sand.{IsStable, IsSettled, grains, topplings}
 use Rattle.sand_model.specs.Piles.{PileView, height_of}
 use Rattle.sand_settle.specs.Settling.{SettledView, IsSettledRecord, odometer_of}
+use Rattle.sand_settle.specs.Avalanches.{WavesLead}
 use Rattle.sand_settle.specs.Drops.{OneView, IsAfter, DropsAll}
 
 -- after any list of drops, one by one, the record is the settled record of the start and the list
@@ -33,3 +34,13 @@ RecordOfStable = (g : Grid) (s : ℕ → ℕ) (r : SettledView) → IsStable g s
 abbrev pub GrainsAreKept : Type 0
 GrainsAreKept =
     (g : Grid) (s : ℕ → ℕ) (r : SettledView) → IsSettledRecord g s r → r.lost + sum r.pile.heights ≡ grains g s
+
+-- the heights before a drop's topplings determine the sizes of its waves
+abbrev pub WavesOnce : Type 0
+WavesOnce = (g : Grid) (site : ℕ) (h k m : ℕ → ℕ) (xs ys : List ℕ) → site < sites g → IsStable g k → IsStable g m
+    → WavesLead g site h xs k → WavesLead g site h ys m → xs ≡ ys
+
+-- the dropped site topples once a wave, and the sizes of the waves sum to the topplings
+abbrev pub WavesAddUp : Type 0
+WavesAddUp = (g : Grid) (site : ℕ) (h u k : ℕ → ℕ) (sizes : List ℕ) → site < sites g → WavesLead g site h sizes k
+    → IsSettled g h u k → (length sizes ≡ u site) × (sum sizes ≡ topplings g u)

@@ -10,6 +10,7 @@ ghost use Rattle.sand_model.specs.Piles.{PileView, height_of, most_grains};
 ghost use Rattle.sand_settle.specs.Avalanches.{IsAvalanche};
 ghost use Rattle.sand_settle.specs.Settling.{odometer_of};
 ghost use Rattle.sand_settle.specs.Drops.{grid_of_one_pile, topplings_between, IsAfter, Drops};
+ghost use Rattle.sand_settle.specs.Waves.{HasDropped, HasDroppedInWaves};
 
 use crate::faults::OneFault;
 use crate::settled::Settled;
@@ -88,16 +89,35 @@ impl DrivenPile {
         ensures err { OnErr result (self.new ≡ self.old) }
         ensures no_other { IfErr result (λ e. e ≡ OneFault.Full) }
     {
+        let (number, avalanche, _) = self.drop_with_waves(site, &mut [])?;
+        Ok((number, avalanche))
+    }
+
+    /// The same, and writes the size of each wave of the avalanche to a list, as many as it has room for. Also returns the
+    /// number of waves.
+    pub fn drop_with_waves(
+        &mut self,
+        site: usize,
+        sizes: &mut [u64],
+    ) -> Result<(u64, Avalanche, usize), OneFault>
+        requires { site < sites (grid_of_one_pile self.old) }
+        ensures dropped { IfOk result (λ r. HasDropped self.old site r.0 r.1 self.new) }
+        ensures waves { IfOk result (λ r. HasDroppedInWaves self.old site r.2 r.1 sizes.old sizes.new self.new) }
+        ensures full { (result ≡ Err OneFault.Full) ↔ (self.old.grains ≡ most_grains) }
+        ensures err { OnErr result (self.new ≡ self.old) }
+        ensures no_other { IfErr result (λ e. e ≡ OneFault.Full) }
+        ensures sizes { OnErr result (sizes.new ≡ sizes.old) }
+    {
         if self.grains == GRAIN_LIMIT {
             return Err(OneFault::Full);
         }
-        let avalanche = self.fronts.drop_at(site);
+        let (avalanche, waves) = self.fronts.drop_with_waves(site, sizes);
         let number = self.number;
         self.number = number + 1;
         self.topplings += avalanche.size;
         self.lost += avalanche.lost;
         self.grains += 1;
-        Ok((number, avalanche))
+        Ok((number, avalanche, waves))
     }
 
     pub fn shape(&self) -> Shape

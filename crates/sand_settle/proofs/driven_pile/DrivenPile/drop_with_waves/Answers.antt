@@ -1,0 +1,81 @@
+use Rattle.std.proofs.Common.{◌<◌, ◌+◌, ap, arith, subst}
+use Rattle.sand_model.specs.Grid.{sites}
+use Rattle.sand_model.specs.Piles.{most_grains}
+use Rattle.sand_settle.specs.Avalanches.{IsAvalanche}
+use Rattle.sand_settle.specs.Drops.{OneView, grid_of_one_pile, one_view, topplings_between}
+use Rattle.sand_settle.specs.Driven.{driven_record}
+use Rattle.sand_settle.specs.Waves.{HasDroppedInWaves}
+use Rattle.sand_settle.proofs.Drops.{drops_from, after_drop}
+use Rattle.sand_settle.proofs.Driven.{DropsOn, drops_on, few_counts, waves_on}
+use Rattle.sand_settle.proofs.driven_pile.DrivenPile.drop_with_waves.Goals.{After-drop_with_waves-waves}
+use Rattle.sand_settle.proofs.driven_pile.DrivenPile.drop_with_waves.Goals as goal
+
+inside : (c : After-drop_with_waves-waves) → c.args.site < sites c.self.inside.start.pile.grid
+inside c = let same = ap (λ (v : OneView). sites (grid_of_one_pile v)) c.self.view_is in omega (arith, c.requires)
+
+room : (c : After-drop_with_waves-waves) → c.self.inside.grains < most_grains
+room c = omega (arith, c.if-self-eq-GRAIN_LIMIT.false, c.self.invariant.all_grains, c.self.invariant.paid.limit)
+
+dropped : (c : After-drop_with_waves-waves)
+    → DropsOn c.self.inside.start c.self.inside.fronts c.drop_with_waves-waves.new.self c.args.site
+    c.drop_with_waves-waves.result.0 c.self.inside.number c.self.inside.topplings c.self.inside.lost c.self.inside.grains
+dropped c = drops_on c.self.invariant (inside c) (room c) c.drop_with_waves-waves.ensures.dropped
+
+pub drop_with_waves-waves-requires-clause-bound : goal.drop_with_waves-waves-requires-clause-bound
+drop_with_waves-waves-requires-clause-bound c = λ j l. omega (arith, few_counts c.self.invariant j l)
+
+pub overflow_add-self : goal.overflow_add-self
+overflow_add-self c = omega (
+  arith,
+  c.if-self-eq-GRAIN_LIMIT.false,
+  c.self.invariant.all_grains,
+  c.self.invariant.paid.limit,
+  c.self.invariant.bound,
+)
+
+pub overflow_add-self-2 : goal.overflow_add-self-2
+overflow_add-self-2 c =
+    let paid = (dropped (goal.at.overflow_add-self-2 c).After-drop_with_waves-waves).driven.paid in
+    omega (arith, paid.paid, paid.limit)
+
+pub overflow_add-self-3 : goal.overflow_add-self-3
+overflow_add-self-3 c =
+    let paid = (dropped (goal.at.overflow_add-self-3 c).After-drop_with_waves-waves).driven.paid in
+    omega (arith, paid.paid, paid.limit)
+
+pub overflow_add-self-4 : goal.overflow_add-self-4
+overflow_add-self-4 c = omega (arith, room (goal.at.overflow_add-self-4 c).After-drop_with_waves-waves)
+
+pub invariant_of-self : goal.invariant_of-self
+invariant_of-self c = (dropped (goal.at.invariant_of-self c).After-drop_with_waves-waves).driven
+
+pub returns-clause-dropped : goal.returns-clause-dropped
+returns-clause-dropped c =
+    let at = (goal.at.returns-clause-dropped c).After-drop_with_waves-waves in
+    let fell = (dropped at).avalanche in
+    let drops = drops_from c.self.inside.number c.self.invariant.paid c.self.view_is (inside at)
+    (omega (arith, room at, c.self.invariant.all_grains)) (dropped at).taken in
+    record {
+      number = ap (λ (v : OneView). v.number) c.self.view_is;
+      avalanche = subst (λ (v : OneView). IsAvalanche (grid_of_one_pile v) c.args.site (topplings_between v.settled
+          (driven_record c.self.inside.start c.drop_with_waves-waves.new.self
+          (c.self.inside.topplings + c.drop_with_waves-waves.result.0.size)
+          (c.self.inside.lost + c.drop_with_waves-waves.result.0.lost)))
+          c.drop_with_waves-waves.result.0) c.self.view_is fell;
+      drops = drops;
+      after = λ start history after. after_drop start history c.args.site c.args.self.now _ drops after;
+    }
+
+pub returns-clause-waves : goal.returns-clause-waves
+returns-clause-waves c =
+    let at = (goal.at.returns-clause-waves c).After-drop_with_waves-waves in
+    let waves = waves_on c.self.invariant (inside at) (dropped at) c.drop_with_waves-waves.ensures.waves in
+    subst (λ (v : OneView). HasDroppedInWaves v c.args.site c.drop_with_waves-waves.result.1
+    c.drop_with_waves-waves.result.0 c.args.sizes.now c.drop_with_waves-waves.new.sizes
+    (one_view (driven_record c.self.inside.start c.drop_with_waves-waves.new.self
+    (c.self.inside.topplings + c.drop_with_waves-waves.result.0.size)
+    (c.self.inside.lost + c.drop_with_waves-waves.result.0.lost)) (c.self.inside.number + 1))) c.self.view_is (record {
+      waves = waves.waves;
+      one_each = waves.one_each;
+      sum_of_sizes = waves.sum_of_sizes;
+    })
