@@ -1,6 +1,7 @@
 pub mod SumsBelow
 pub mod Neighbours
 pub mod Borders
+pub mod Edges
 pub mod Flow
 pub mod Sandpile
 pub mod Heights

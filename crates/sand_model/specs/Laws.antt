@@ -1,8 +1,9 @@
 -- The laws of toppling, over all grids and all piles.
-use Rattle.std.specs.Prelude.{ℕ, ℤ, pos, ◌≡◌, ◌+◌, ◌*◌, ◌<◌, ◌≤◌, ◌↔◌, ◌+ℤ◌, ◌-ℤ◌, ◌*ℤ◌, ◌≤ℤ◌, List, [], ◌∷◌, All, length, sum, slice_index}
-use Rattle.sand_model.specs.Grid.{Grid, sites, missing}
+use Rattle.std.specs.Prelude.{ℕ, ℤ, pos, min, ◌≡◌, ◌+◌, ◌*◌, ◌<◌, ◌≤◌, ◌↔◌, ◌+ℤ◌, ◌-ℤ◌, ◌*ℤ◌, ◌≤ℤ◌, List, [], ◌∷◌, All, length, sum, slice_index}
+use Rattle.sand_model.specs.Grid.{Grid, IsGrid, sites, missing, middle}
+use Rattle.sand_model.specs.Edges.{to_edge, most_to_edge}
 use Rattle.sand_model.specs.Forbidden.{IsTight}
-use Rattle.sand_model.specs.Sand.{flow, occurrences, one_at, IsStable, IsToppled, Stabilises, IsUnderway, IsSettled, grains, lost, weight}
+use Rattle.sand_model.specs.Sand.{flow, occurrences, one_at, IsStable, IsToppled, Stabilises, IsUnderway, IsLeast, IsSettled, grains, lost, weight}
 use Rattle.sand_model.specs.Integers.{laplacian, whole_sum_below, whole, IsEquivalent}
 
 -- after each site has toppled u times, site i may topple: s - Lu is at least 4 there
@@ -90,3 +91,19 @@ abbrev pub SettledBySite : Type 0
 SettledBySite = (g : Grid) (s s' u u' t t' : ℕ → ℕ) → ((i : ℕ) → i < sites g → s i ≡ s' i)
     → ((i : ℕ) → i < sites g → u i ≡ u' i) → ((i : ℕ) → i < sites g → t i ≡ t' i)
     → IsSettled g s u t → IsSettled g s' u' t'
+
+-- a grain dropped at site a of a stable pile topples each site at most as often as that site's distance to the nearest open
+-- edge, and as the distance of a
+abbrev pub DropsToppleFew : Type 0
+DropsToppleFew = (g : Grid) (s u : ℕ → ℕ) (a : ℕ) → a < sites g → IsStable g s → IsLeast g (λ j. s j + one_at a j) u
+    → (i : ℕ) → i < sites g → u i ≤ min (to_edge g i) (to_edge g a)
+
+-- no site is farther from the nearest open edge than the middle is
+abbrev pub NoneIsFarther : Type 0
+NoneIsFarther = (g : Grid) (i : ℕ) → i < sites g → to_edge g i ≤ most_to_edge g
+
+abbrev pub MiddleIsFarthest : Type 0
+MiddleIsFarthest = (g : Grid) → IsGrid g → to_edge g (middle g) ≡ most_to_edge g
+
+abbrev pub EdgeIsNear : Type 0
+EdgeIsNear = (g : Grid) → IsGrid g → most_to_edge g ≤ 128

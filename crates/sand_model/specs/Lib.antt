@@ -1,6 +1,7 @@
 pub mod Forbidden
 pub mod Grid
 pub mod Columns
+pub mod Edges
 pub mod Sand
 pub mod Underway
 pub mod Lists

@@ -20,10 +20,16 @@
 //! neighbours outside it. Since `w` leaves at most 3 there, the height in `t` is below the number of neighbours in the
 //! set. So the set is forbidden, a contradiction. (Friedrich and Levine 2010.)
 //!
+//! **A drop topples few.** Let `d` be the distance to the nearest open edge, counted from 1, let a grain fall at site
+//! `a`, and let `w = min(d, d(a))`. Along rows and along columns `d` is the least of straight lines that are 0 just
+//! outside the open edges, and so is `w`. So the four neighbours of a site have at most four times its `w`. Those of `a`
+//! have less, since its neighbour towards the nearest edge has `d(a) - 1`. So `w` stabilises each stable pile with one
+//! more grain at `a`, and by least action no site topples more often than in `w`.
+//!
 //! **Natural numbers and integers.** The definitions are over the natural numbers, without subtraction. Over the
 //! integers they are the `s - Lu` and the `s - Lu <= 3` of the textbooks.
 
-ghost use Rattle.sand_model.specs.Laws.{LeastAction, WeightFalls, LaplacianSum, LaplacianSumOverIntegers, EachSettles, Abelian, SettlesAfter, SettledOnce, LeastIfTight, ToppledOverIntegers, StabilisesOverIntegers, SettledIsEquivalent, SumIsGrains, GrainsAddUp, DropsAreGrains, SettledBySite};
+ghost use Rattle.sand_model.specs.Laws.{LeastAction, WeightFalls, LaplacianSum, LaplacianSumOverIntegers, EachSettles, Abelian, SettlesAfter, SettledOnce, LeastIfTight, ToppledOverIntegers, StabilisesOverIntegers, SettledIsEquivalent, SumIsGrains, GrainsAddUp, DropsAreGrains, SettledBySite, DropsToppleFew, NoneIsFarther, MiddleIsFarthest, EdgeIsNear};
 
 /// Legal topplings never exceed any odometer that stabilises the pile.
 pub fn least_action()
@@ -84,4 +90,17 @@ pub fn grains_add_up()
 /// What a pile settles to depends only on its heights at the sites of the grid.
 pub fn settled_by_site()
     ensures { SettledBySite }
+{}
+
+/// A drop on a stable pile topples no site more often than its distance to the nearest open edge, nor more often than
+/// that of the dropped site.
+pub fn drops_topple_few()
+    ensures { DropsToppleFew }
+{}
+
+/// The distance to the nearest open edge is greatest in the middle, and at most 128.
+pub fn distances_to_edge()
+    ensures none_farther { NoneIsFarther }
+    ensures middle { MiddleIsFarthest }
+    ensures small { EdgeIsNear }
 {}

@@ -4,6 +4,7 @@
 
 ghost use Rattle.std.specs.Prelude.{◌≡◌, ◌<◌, count_by, is_none};
 ghost use Rattle.sand_model.specs.Grid.{IsGrid, grid_with_edge, sites, column, row, north, west, east, south, places, missing, site_at, middle};
+ghost use Rattle.sand_model.specs.Edges.{most_to_edge};
 ghost use Rattle.sand_model.specs.declared.shape.Edge.TheVariants.{Open};
 
 use crate::faults::ShapeFault;
@@ -123,6 +124,18 @@ impl Shape {
         } else {
             None
         }
+    }
+
+    /// The greatest distance of a site to the nearest open edge, counted from 1. So no drop on a stable pile topples a site
+    /// more often.
+    pub fn most_to_edge(self) -> usize
+        ensures { result ≡ most_to_edge self }
+    {
+        let least = match self.edge {
+            Edge::Open => self.width.min(self.height),
+            Edge::Cylinder => self.height,
+        };
+        (least + 1) / 2
     }
 
     /// The site in the middle: in column `width / 2` and row `height / 2`.
