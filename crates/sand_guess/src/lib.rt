@@ -10,8 +10,8 @@
 //!
 //! 1. `levels`: halve the pile again and again, until it is small. The smallest is guessed from a constant density.
 //! 2. `solver`: solve Lu = s - density in floating point, directly: modes along x, elimination along y.
-//! 3. `repair`: correct the rounded counts, by toppling unstable sites (by bit `planes`) and taking back needless
-//!    topplings (`burning`). Here all numbers are exact.
+//! 3. `repair`: correct the rounded counts, by toppling unstable sites and taking back needless topplings (`tiles`).
+//!    Here all numbers are exact.
 //! 4. `density`: local means of the resulting heights predict the density for the pile of twice the size.
 //!
 //! The identity of the group of recurrent piles is guessed in the same way, from the empty pile (`claim`). `forecast`
@@ -21,19 +21,20 @@
 //! for zipped iterators, and the compiled loop is the same.
 #![tactic(auto)]
 
-mod burning;
 mod claim;
 mod density;
 mod forecast;
 mod levels;
 mod modes;
 mod neighbours;
-mod planes;
+mod places;
 mod product;
 mod repair;
 mod residual;
 mod rows;
 mod solver;
+mod tile;
+mod tiles;
 
 pub use claim::{Claim, guessed, guessed_identity, toppled};
 pub use forecast::{is_flat, is_high};

@@ -1,0 +1,146 @@
+//! Where the tiles of a grid are, and which are side by side.
+//!
+//! Tiles are numbered row by row. Around those with sites is a border of tiles without, which spares tests for the edge
+//! of the grid: what falls there is never read.
+
+ghost use Rattle.std.specs.Prelude.{◌≤◌, ◌<◌};
+
+use crate::rows::{run, run_mut};
+use crate::tile::{COLUMNS, ROWS};
+use sand_model::{Edge, Shape};
+use std::alloc::{AllocError, Global};
+use std::simd::prelude::*;
+
+/// The place of a tile.
+#[derive(Clone, Copy)]
+pub(crate) struct Place {
+    /// The site in its first row and column, if it has sites, and the number of columns with sites.
+    corner: usize,
+    columns: usize,
+    /// The number of sites in a row of the grid.
+    width: usize,
+    pub(crate) sites: u16x8,
+    /// Its places outside the grid that are next to sites, in it or in another tile.
+    pub(crate) sinks: u16x8,
+    /// The tiles to the west and to the east.
+    pub(crate) west: usize,
+    pub(crate) east: usize,
+    /// The bit of the last column of the tile to the west, and of the last one that is next to the tile to the east.
+    west_end: u16,
+    east_end: u16,
+}
+
+impl Place {
+    // The site in the first column of a row.
+    #[inline(always)]
+    fn first_in(&self, row: usize) -> usize {
+        self.corner.wrapping_add(row.wrapping_mul(self.width))
+    }
+
+    /// The first column of a set, as the last one of the tile to the west.
+    #[inline(always)]
+    pub(crate) fn to_west(&self, set: u16x8) -> u16x8 {
+        (set & u16x8::splat(1)) * u16x8::splat(self.west_end)
+    }
+
+    /// The last column of a set, as the first one of the tile to the east.
+    #[inline(always)]
+    pub(crate) fn to_east(&self, set: u16x8) -> u16x8 {
+        (set & u16x8::splat(self.east_end)).simd_min(u16x8::splat(1))
+    }
+
+    /// The part of a list by site that is in a row of the tile.
+    #[inline(always)]
+    pub(crate) fn row<'a, T>(&self, list: &'a [T], row: usize) -> &'a [T] {
+        run(list, self.first_in(row), self.columns)
+    }
+
+    /// The same, mutable.
+    #[inline(always)]
+    pub(crate) fn row_mut<'a, T>(&self, list: &'a mut [T], row: usize) -> &'a mut [T] {
+        run_mut(list, self.first_in(row), self.columns)
+    }
+}
+
+/// The number of tiles in a row, with the border.
+pub(crate) fn pitch_of(shape: Shape) -> usize
+    ensures some { 0 < result }
+    ensures bound { result ≤ 18 }
+{
+    shape.width().div_ceil(COLUMNS) + 2
+}
+
+// How many rows or columns of a tile are on the grid. The border has none.
+fn span(side: usize, number: usize, most: usize) -> usize
+    ensures { result ≤ most }
+{
+    let before = number.wrapping_sub(1).wrapping_mul(most);
+    side.saturating_sub(before).min(most)
+}
+
+// The bits of the first columns.
+fn first_columns(count: usize) -> u16
+    requires { count ≤ 16 }
+{
+    u16::MAX.checked_shr((COLUMNS - count) as u32).unwrap_or(0)
+}
+
+// The first rows of these columns.
+fn first_rows(columns: u16, count: usize) -> u16x8 {
+    let mut rows = [0u16; ROWS];
+    for row in 0..ROWS.min(count) {
+        rows[row] = columns;
+    }
+    u16x8::from_array(rows)
+}
+
+// The place of the tile in row y and column x.
+fn place_of(shape: Shape, x: usize, y: usize) -> Place {
+    let across = shape.width().div_ceil(COLUMNS);
+    let row = y.wrapping_mul(pitch_of(shape));
+    let k = row.wrapping_add(x);
+    let columns = span(shape.width(), x, COLUMNS);
+    let all = first_columns(columns);
+    let sites = first_rows(all, span(shape.height(), y, ROWS));
+    let is_round = shape.edge() == Edge::Cylinder;
+    let seam = 1u16 << (shape.width() - 1) % COLUMNS;
+    let (is_first, is_last) = (is_round && x == 1, is_round && x == across);
+    let up = y
+        .wrapping_sub(1)
+        .wrapping_mul(ROWS)
+        .wrapping_mul(shape.width());
+    Place {
+        corner: up.wrapping_add(x.wrapping_sub(1).wrapping_mul(COLUMNS)),
+        columns,
+        width: shape.width(),
+        sites,
+        sinks: if is_round {
+            u16x8::splat(all) & !sites
+        } else {
+            !sites
+        },
+        west: if is_first {
+            row.wrapping_add(across)
+        } else {
+            k.wrapping_sub(1)
+        },
+        east: if is_last {
+            row.wrapping_add(1)
+        } else {
+            k.wrapping_add(1)
+        },
+        west_end: if is_first { seam } else { 0x8000 },
+        east_end: if is_last { seam } else { 0x8000 },
+    }
+}
+
+/// The places of all tiles.
+pub(crate) fn places_of(alloc: Global, shape: Shape) -> Result<Vec<Place>, AllocError> {
+    let pitch = pitch_of(shape);
+    let all = pitch * (shape.height().div_ceil(ROWS) + 2);
+    let mut places = Vec::with_capacity(alloc, all)?;
+    for k in 0..all {
+        places.push(place_of(shape, k % pitch, k / pitch))?;
+    }
+    Ok(places)
+}
