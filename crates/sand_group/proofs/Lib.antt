@@ -8,4 +8,8 @@ pub mod BurningSteps
 pub mod OperationsOnHeights
 pub mod EmptiedIsIdentity
 pub mod Multiples
+pub mod IntegerLists
+pub mod FiringVectors
+pub mod SuperstableHeights
+pub mod ReachedIsRecurrent
 pub mod WhyRefused

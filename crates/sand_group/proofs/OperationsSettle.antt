@@ -51,7 +51,7 @@ settled_represents g s u t done recurrent = record {
 }
 
 -- heights of at least 3 settle to a recurrent pile
-high_represents : (g : Grid) (s u t : ℕ → ℕ) → IsSettled g s u t → ((i : ℕ) → i < sites g → 3 ≤ s i)
+pub high_represents : (g : Grid) (s u t : ℕ → ℕ) → IsSettled g s u t → ((i : ℕ) → i < sites g → 3 ≤ s i)
     → Represents g (whole s) t
 high_represents g s u t done high =
     settled_represents g s u t done (settled_recurrent g (λ i. s i - 3) u t

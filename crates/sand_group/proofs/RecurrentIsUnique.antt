@@ -33,7 +33,7 @@ balance_of_parts g c d z i l e = omega (
   flow_same g (λ j. over z j + below (z j)) (λ j. under z j + above (z j)) (λ j m. omega arith) i l,
 )
 
-none_above : (g : Grid) (c d p q : ℕ → ℕ) → IsStable g c → IsRecurrent g d
+pub none_above : (g : Grid) (c d p q : ℕ → ℕ) → IsStable g c → IsRecurrent g d
     → ((i : ℕ) → i < sites g → c i + 4 * q i + flow g p i ≡ d i + 4 * p i + flow g q i)
     → ((i : ℕ) → 0 < p i → q i ≡ 0) → (i : ℕ) → i < sites g → p i ≡ 0
 none_above g c d p q stable recurrent balance apart i l =

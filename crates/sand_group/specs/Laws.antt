@@ -1,11 +1,12 @@
 -- The laws of recurrent piles and of their group, over all grids.
-use Rattle.std.specs.Prelude.{ℕ, ℤ, ◌≡◌, ◌+◌, ◌-◌, ◌*◌, ◌<◌, ◌↔◌, List}
+use Rattle.std.specs.Prelude.{ℕ, ℤ, pos, ◌≡◌, ◌+◌, ◌-◌, ◌*◌, ◌<◌, ◌-ℤ◌, ◌↔◌, List}
 use Rattle.sand_model.specs.Grid.{Grid, IsGrid, sites}
 use Rattle.sand_model.specs.Sand.{IsStable, IsSettled}
 use Rattle.sand_model.specs.Integers.{whole, IsEquivalent}
 use Rattle.sand_model.specs.Piles.{PileView, height_of}
 use Rattle.sand_group.specs.Recurrence.{IsRecurrent, IsBurningOrder}
 use Rattle.sand_group.specs.Group.{SettlesTo, OnceSettled, IsSurplus, Represents, IsSum, IsMultiple, IsIdentity, IsInverse}
+use Rattle.sand_group.specs.Classes.{IsFired, IsSuperstable}
 
 -- two piles that the same heights settle to are equal
 abbrev pub SettlesToOnePile : Type 0
@@ -107,3 +108,26 @@ OneIsItself = (g : Grid) (c : ℕ → ℕ) → IsRecurrent g c → IsMultiple g 
 abbrev pub MultiplesAddUp : Type 0
 MultiplesAddUp = (g : Grid) (n m : ℕ) (c a b e : ℕ → ℕ) → IsMultiple g n c a → IsMultiple g m c b
     → IsMultiple g (n + m) c e ↔ IsSum g a b e
+
+-- only one firing vector leads from heights to others
+abbrev pub FiringIsUnique : Type 0
+FiringIsUnique = (g : Grid) (x z y c : ℕ → ℤ) → IsFired g x z c → IsFired g x y c
+    → (i : ℕ) → i < sites g → z i ≡ y i
+
+-- a firing vector leads from heights to others of their class
+abbrev pub FiringIsEquivalence : Type 0
+FiringIsEquivalence = (g : Grid) (x c : ℕ → ℤ) → IsEquivalent g x c ↔ ((z : ℕ → ℤ) × IsFired g x z c)
+
+-- heights are superstable if and only if they are 3 less a recurrent pile, whose heights are at most 3
+abbrev pub SuperstableDuality : Type 0
+SuperstableDuality = (g : Grid) (s : ℕ → ℤ)
+    → IsSuperstable g s ↔ ((c : ℕ → ℕ) × IsRecurrent g c × ((i : ℕ) → i < sites g → s i ≡ pos 3 -ℤ pos (c i)))
+
+-- each class has superstable heights
+abbrev pub EachClassHasSuperstable : Type 0
+EachClassHasSuperstable = (g : Grid) (x : ℕ → ℤ) → (t : ℕ → ℕ) × IsSuperstable g (whole t) × IsEquivalent g (whole t) x
+
+-- two equivalent superstable heights are equal
+abbrev pub EquivalentSuperstablesAreEqual : Type 0
+EquivalentSuperstablesAreEqual = (g : Grid) (s t : ℕ → ℤ) → IsSuperstable g s → IsSuperstable g t
+    → IsEquivalent g s t → (i : ℕ) → i < sites g → s i ≡ t i

@@ -3,5 +3,7 @@ pub mod Fire
 pub mod Burned
 pub mod BurningTimes
 pub mod Group
+pub mod Classes
+pub mod Reaching
 pub mod Faults
 pub mod Laws

@@ -14,9 +14,12 @@
 //!
 //! **One in each class.** If two recurrent piles differ by Lz, the sites where z is greatest are forbidden in the
 //! second, unless z is at most 0. The same holds for -z. So two equivalent recurrent piles are equal. And a recurrent c
-//! is what c + d settles to, for d = 2m - settled(2m): d is equivalent to all 0 and at least m.
+//! is what c + d settles to, for d = 2m - settled(2m): d is equivalent to all 0 and at least m. If Lz is 0, c and c are
+//! two piles that differ by Lz, so z is 0: only one firing vector leads from heights to others.
+//!
+//! **Superstable heights.** A set of sites can be fired at once without debt if and only if it is forbidden in 3 - s.
 
-ghost use Rattle.sand_group.specs.Laws.{SettlesToOnePile, SettlesInParts, BurningDecides, RecurrentBySite, RecurrentFromFull, StaysRecurrent, EachClassHasOne, EquivalentRecurrentsAreEqual, RepresentativesAreEqual, SumIsSettled, EachGridHasSurplus, IdentityIsSettled, InverseIsSettled, IdentityIsNeutral, InverseCancels, EquivalentIsSettled, RepresentsItself, EquivalentsAddUp, EachHasOneMultiple, NoneIsIdentity, OneIsItself, MultiplesAddUp};
+ghost use Rattle.sand_group.specs.Laws.{SettlesToOnePile, SettlesInParts, BurningDecides, RecurrentBySite, RecurrentFromFull, StaysRecurrent, EachClassHasOne, EquivalentRecurrentsAreEqual, RepresentativesAreEqual, SumIsSettled, EachGridHasSurplus, IdentityIsSettled, InverseIsSettled, IdentityIsNeutral, InverseCancels, EquivalentIsSettled, RepresentsItself, EquivalentsAddUp, EachHasOneMultiple, NoneIsIdentity, OneIsItself, MultiplesAddUp, FiringIsUnique, FiringIsEquivalence, SuperstableDuality, EachClassHasSuperstable, EquivalentSuperstablesAreEqual};
 
 /// Heights settle to one pile, at once or in two parts.
 pub fn settles_to_one_pile()
@@ -75,4 +78,17 @@ pub fn multiples_add_up()
     ensures none { NoneIsIdentity }
     ensures itself { OneIsItself }
     ensures sum { MultiplesAddUp }
+{}
+
+/// Heights are equivalent if and only if a firing vector leads from one to the other, and then only one does.
+pub fn one_firing_vector()
+    ensures unique { FiringIsUnique }
+    ensures equivalent { FiringIsEquivalence }
+{}
+
+/// Heights s are superstable if and only if 3 - s is recurrent, and each class has exactly one such s.
+pub fn one_superstable_in_each_class()
+    ensures duality { SuperstableDuality }
+    ensures some { EachClassHasSuperstable }
+    ensures equivalent { EquivalentSuperstablesAreEqual }
 {}

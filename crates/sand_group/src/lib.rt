@@ -2,21 +2,27 @@
 //!
 //! The definitions are in `specs/`: `Recurrence` (recurrent piles, burning orders, the greatest forbidden set), `Group`
 //! (sums, multiples, the identity, inverses, the recurrent pile of a class), `Burned` (what the burning test returns),
-//! `BurningTimes` (the step in which each site burns) and `Laws`. Proofs of other crates can rely on `laws`.
+//! `BurningTimes` (the step in which each site burns), `Classes` (integer heights: firing vectors, superstable heights)
+//! and `Laws`. Proofs of other crates can rely on `laws`.
 #![tactic(auto)]
 
 mod burning;
 mod burning_steps;
+mod classes;
 mod doubling;
 mod equivalent;
 mod faults;
 mod group;
 pub mod laws;
 mod neutral;
+mod reaching;
+mod superstables;
 
 pub use burning::{Burned, burn};
 pub use burning_steps::burning_times;
+pub use classes::{Fired, recurrent_by_firing};
 pub use doubling::multiple;
 pub use equivalent::equivalent_recurrent;
 pub use faults::GroupFault;
 pub use group::{Recurrent, act, add, identity, inverse};
+pub use superstables::superstable;

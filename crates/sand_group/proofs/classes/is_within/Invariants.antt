@@ -1,0 +1,7 @@
+use Rattle.std.proofs.Common.{◌≡◌, ◌≤◌, take}
+use Rattle.sand_model.specs.Piles.{most_grains}
+use Rattle.sand_group.specs.Classes.{whole_grains}
+use Rattle.sand_group.proofs.classes.is_within.Given as goal
+
+abbrev pub invariant-loop-height : goal.invariant-loop-height
+invariant-loop-height l = (l.grains ≡ whole_grains (take l.height-index l.heights)) × (l.grains ≤ most_grains)

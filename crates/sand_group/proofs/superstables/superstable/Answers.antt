@@ -1,0 +1,35 @@
+use Rattle.std.proofs.Common.{List, ℕ, ◌∙◌, ap, arith, length}
+use Rattle.std.proofs.lemmas.List.Sums.{sum_by-le}
+use Rattle.sand_model.specs.Integers.{whole}
+use Rattle.sand_model.specs.Piles.{PileView, height_of}
+use Rattle.sand_model.proofs.Bounds.{sites_limit}
+use Rattle.sand_group.specs.Classes.{integer_at, IsSuperstableOf}
+use Rattle.sand_group.proofs.ReachedIsRecurrent.{superstable_from_reached}
+use Rattle.sand_group.proofs.SuperstableHeights.{superstable_if_itself}
+use Rattle.sand_group.proofs.superstables.superstable.Goals.{After-from_vec}
+use Rattle.sand_group.proofs.superstables.superstable.Goals as goal
+
+pub from_vec-requires-clause-limit : goal.from_vec-requires-clause-limit
+from_vec-requires-clause-limit c = omega (
+  arith,
+  sum_by-le (λ h. h) 3 c.in_ok-rests.rests.items c.in_ok-rests.ensures.low,
+  c.in_ok-rests.ensures.len,
+  ap (λ (xs : List ℕ). length xs) c.heights.ensures.value,
+  c.heights.ensures.pile.len,
+  sites_limit _ c.heights.ensures.pile.grid,
+)
+
+found : (c : After-from_vec) → IsSuperstableOf c.args.shape (integer_at c.args.heights.now) c.from_vec.result
+found c = superstable_from_reached c.args.shape (integer_at c.args.heights.now) (height_of c.in_ok-above.above)
+    (height_of c.in_ok-above.below) c.in_ok-reached.reached c.heights.result.now c.in_ok-rests.rests.items
+    c.from_vec.result (rw c.in_ok-above.ensures.below_grid at c.in_ok-reached.ensures) c.in_ok-above.ensures.difference
+    (c.heights.ensures.value ∙ ap (λ (v : PileView). v.heights) c.pile.ensures.value) c.in_ok-rests.ensures.len c.in_ok-rests.ensures.rests c.from_vec.ensures
+
+pub returns-clause-superstable : goal.returns-clause-superstable
+returns-clause-superstable c = found (goal.at.returns-clause-superstable c).After-from_vec
+
+pub returns-clause-itself : goal.returns-clause-itself
+returns-clause-itself c =
+    let done = found (goal.at.returns-clause-itself c).After-from_vec in
+    superstable_if_itself c.args.shape (integer_at c.args.heights.now) (whole (height_of c.from_vec.result))
+    done.superstable done.equivalent
