@@ -48,7 +48,8 @@ enum {
     SANDPILE_NARROW = 24,
     SANDPILE_NO_SITE = 25,
     SANDPILE_EMPTY = 26,
-    SANDPILE_OTHER_PILE = 27
+    SANDPILE_OTHER_PILE = 27,
+    SANDPILE_NOT_TREE = 28
 };
 
 /* A sentence for a fault. */
@@ -72,6 +73,7 @@ static inline const char *sandpile_explain(uint32_t fault) {
     case SANDPILE_NO_SITE: return "a site is outside the grid";
     case SANDPILE_EMPTY: return "the handle holds nothing";
     case SANDPILE_OTHER_PILE: return "the two passes belong to different piles";
+    case SANDPILE_NOT_TREE: return "the directions are not a spanning tree";
     default: return "unknown fault number";
     }
 }
@@ -147,6 +149,36 @@ uint32_t sandpile_inverse(size_t width, size_t height, bool cylinder, uint64_t *
 /* Replaces a recurrent pile with the sum of n copies of it; for n = 0 that is the identity. `heights_length` is width times
    height. SIDE, NARROW, LENGTH, TOO_MANY_GRAINS; then UNSTABLE, NOT_RECURRENT or MEMORY. */
 uint32_t sandpile_multiple(size_t width, size_t height, bool cylinder, uint64_t *heights, size_t heights_length, uint64_t n);
+
+/* Writes the step in which each site of a stable pile burns, from 1 on, if in each step all sites burn that can; 0 for each site
+   that never burns. `heights_length` and `times_length` are width times height. SIDE, NARROW, LENGTH, TOO_MANY_GRAINS; then
+   UNSTABLE or MEMORY. */
+uint32_t sandpile_burn_times(size_t width, size_t height, bool cylinder, const uint64_t *heights, size_t heights_length,
+                             uint32_t *times, size_t times_length);
+
+/* Spanning trees.
+
+   A spanning tree has a direction for each site, 0 (north), 1 (west), 2 (east) or 3 (south), over which it reaches the sink.
+   A direction may lead out of the grid: into the sink. The depth of a site is the number of edges on its way to the sink. The
+   pile of a tree has at each site 4 grains, less the number of its edges that lead to less than its own depth, plus the number
+   of its edges before its own direction, in the order north, west, east, south, that lead to one depth less. It is recurrent,
+   and its burning times are the depths. Each recurrent pile is the pile of exactly one tree (Majumdar and Dhar 1992). */
+
+/* Writes the directions of the tree of a recurrent pile. `heights_length` and `directions_length` are width times height. SIDE,
+   NARROW, LENGTH, TOO_MANY_GRAINS; then UNSTABLE, NOT_RECURRENT or MEMORY. */
+uint32_t sandpile_tree(size_t width, size_t height, bool cylinder, const uint64_t *heights, size_t heights_length,
+                       uint8_t *directions, size_t directions_length);
+
+/* Writes the pile of a tree. `directions_length` and `heights_length` are width times height. NOT_TREE is returned for
+   directions that lead around a cycle, and for a direction above 3. SIDE, NARROW, LENGTH, NOT_TREE, MEMORY. */
+uint32_t sandpile_of_tree(size_t width, size_t height, bool cylinder, const uint8_t *directions, size_t directions_length,
+                          uint64_t *heights, size_t heights_length);
+
+/* Writes a random recurrent pile; each is as likely as any other. It is the pile of a random tree, made by Wilson's algorithm
+   (1996) from the words of the stream that `sandpile_sites` reads. `heights_length` is width times height. SIDE, NARROW,
+   LENGTH, MEMORY. */
+uint32_t sandpile_random(size_t width, size_t height, bool cylinder, uint64_t seed, uint64_t stream, uint64_t *heights,
+                         size_t heights_length);
 
 /* Handles.
 

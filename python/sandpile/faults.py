@@ -26,6 +26,7 @@ _FAULTS = {
     25: ("NoSite", "a site is outside the grid"),
     26: ("Empty", "the handle holds nothing"),
     27: ("OtherPile", "the two passes belong to different piles"),
+    28: ("NotTree", "the directions are not a spanning tree"),
 }
 
 _MEMORY = 4

@@ -123,6 +123,66 @@ static void burn(void) {
     assert(found[0] == 1 && found[1] == 2 && count == 2 && !burns);
 }
 
+/* The steps of the fires of `burn`: in 0 1 1 the last site burns first, and in 1 0 0 two never burn. */
+static void burn_times(void) {
+    const uint64_t recurrent[3] = {0, 1, 1}, other[3] = {1, 0, 0};
+    const uint32_t steps[2][3] = {{3, 2, 1}, {1, 0, 0}};
+    uint32_t times[3] = {7, 7, 7};
+    assert(sandpile_burn_times(3, 1, false, recurrent, 3, times, 3) == 0 && ARE_EQUAL(times, steps[0]));
+    assert(sandpile_burn_times(3, 1, false, other, 3, times, 3) == 0 && ARE_EQUAL(times, steps[1]));
+}
+
+/* East, east and north: the depths are 3 2 1. Of the first site all edges lead below depth 3, of the middle one all but that to
+   the west below 2, and of the last one all but that below 1, and none comes before its own. So the pile is 0 1 1. If the last
+   site leads south, two edges to the sink come before, and its height is 3. */
+static void tree(void) {
+    const uint64_t piles[2][3] = {{0, 1, 1}, {0, 1, 3}};
+    const uint8_t trees[2][3] = {{2, 2, 0}, {2, 2, 3}};
+    for (int i = 0; i < 2; i++) {
+        uint8_t directions[3] = {7, 7, 7};
+        uint64_t heights[3] = {7, 7, 7};
+        assert(sandpile_tree(3, 1, false, piles[i], 3, directions, 3) == 0 && ARE_EQUAL(directions, trees[i]));
+        assert(sandpile_of_tree(3, 1, false, trees[i], 3, heights, 3) == 0 && ARE_EQUAL(heights, piles[i]));
+    }
+}
+
+/* Each row has the faults that are checked after its own, too. */
+static void tree_faults(void) {
+    const struct {
+        size_t width;
+        bool cylinder;
+        size_t directions, heights;
+        uint8_t last;
+        uint32_t fault;
+    } rows[] = {
+        {0, true, 1, 1, 4, SANDPILE_SIDE},
+        {2, true, 1, 1, 4, SANDPILE_NARROW},
+        {2, false, 1, 2, 4, SANDPILE_LENGTH},
+        {2, false, 2, 1, 4, SANDPILE_LENGTH},
+        {2, false, 2, 2, 4, SANDPILE_NOT_TREE},
+        {2, false, 2, 2, 255, SANDPILE_NOT_TREE},
+        {2, false, 2, 2, 1, SANDPILE_NOT_TREE}, /* the two sites lead to each other */
+        {2, false, 2, 2, 2, 0},
+    };
+    for (size_t i = 0; i < sizeof rows / sizeof *rows; i++) {
+        const uint8_t directions[2] = {2, rows[i].last};
+        const uint64_t sevens[2] = {7, 7};
+        uint64_t heights[2] = {7, 7};
+        uint32_t fault = sandpile_of_tree(rows[i].width, 1, rows[i].cylinder, directions, rows[i].directions, heights,
+                                          rows[i].heights);
+        assert(fault == rows[i].fault && ARE_EQUAL(heights, sevens) == (fault != 0));
+    }
+}
+
+/* The keystream of key and nonce 0 (see `sites`) goes on with 1f09a5a1 2c840ec3. So the words modulo 4 are 2, 1, 3, 3 and 0. The
+   first walk goes east, back to the west, and south into the sink; the second one goes south, and the third one north. That is
+   the tree 3 3 0: of the first site three edges lead to the sink, and two come before its own, so that it has 4 - 3 + 2 grains. */
+static void random_pile(void) {
+    const uint64_t pile[3] = {3, 3, 1};
+    uint64_t heights[3] = {7, 7, 7};
+    assert(sandpile_random(3, 1, false, 0, 0, heights, 3) == 0 && ARE_EQUAL(heights, pile));
+}
+
 /* A toppling of each site takes 3 2 3 grains, which is recurrent; on a cylinder 2 2 2. */
 static void identity(void) {
     const uint64_t neutral[2][3] = {{3, 2, 3}, {2, 2, 2}};
@@ -322,6 +382,10 @@ static void null_piles(void) {
     assert(sandpile_settle(3, 1, false, NULL, 0, NULL, 0, &lost, &topplings) == SANDPILE_LENGTH);
     assert(sandpile_drop(3, 1, false, NULL, 0, NULL, 0, NULL, 0, NULL, 0) == SANDPILE_LENGTH);
     assert(sandpile_burn(3, 1, false, NULL, 0, NULL, 0, &count, &recurrent) == SANDPILE_LENGTH);
+    assert(sandpile_burn_times(3, 1, false, NULL, 0, NULL, 0) == SANDPILE_LENGTH);
+    assert(sandpile_tree(3, 1, false, NULL, 0, NULL, 0) == SANDPILE_LENGTH);
+    assert(sandpile_of_tree(3, 1, false, NULL, 0, NULL, 0) == SANDPILE_LENGTH);
+    assert(sandpile_random(3, 1, false, 0, 0, NULL, 0) == SANDPILE_LENGTH);
     assert(sandpile_identity(3, 1, false, NULL, 0) == SANDPILE_LENGTH);
     assert(sandpile_recurrent(3, 1, false, NULL, 0) == SANDPILE_LENGTH);
     assert(sandpile_add(3, 1, false, NULL, 0, NULL, 0) == SANDPILE_LENGTH);
@@ -342,6 +406,10 @@ int main(void) {
     drop();
     sites();
     burn();
+    burn_times();
+    tree();
+    tree_faults();
+    random_pile();
     identity();
     recurrent();
     add();

@@ -16,6 +16,8 @@ static size_t width, height, sites;
 static bool cylinder;
 static uint64_t heights[SITES], others[SITES], odometer[SITES];
 static size_t places[SITES];
+static uint32_t times[SITES];
+static uint8_t directions[SITES];
 static sandpile_avalanche avalanches[DROPS];
 static sandpile_drive driven;
 static sandpile_pass whole, upper, lower, child;
@@ -45,6 +47,14 @@ static uint32_t burn(void) {
     bool recurrent;
     return sandpile_burn(width, height, cylinder, heights, sites, places, sites, &count, &recurrent);
 }
+
+static uint32_t burn_times(void) { return sandpile_burn_times(width, height, cylinder, heights, sites, times, sites); }
+
+static uint32_t tree(void) { return sandpile_tree(width, height, cylinder, heights, sites, directions, sites); }
+
+static uint32_t of_tree(void) { return sandpile_of_tree(width, height, cylinder, directions, sites, heights, sites); }
+
+static uint32_t random_pile(void) { return sandpile_random(width, height, cylinder, 1, 2, heights, sites); }
 
 static uint32_t identity(void) { return sandpile_identity(width, height, cylinder, heights, sites); }
 
@@ -145,6 +155,11 @@ static const struct { const char *name; uint32_t (*make)(void); uint64_t each; u
     {"sandpile_sites", draw, 0, nothing},
     {"sandpile_burn", burn, 0, nothing},
     {"sandpile_burn", burn, 3, nothing},
+    {"sandpile_burn_times", burn_times, 0, nothing},
+    {"sandpile_burn_times", burn_times, 3, nothing},
+    {"sandpile_tree", tree, 3, nothing},
+    {"sandpile_of_tree", of_tree, 3, tree},
+    {"sandpile_random", random_pile, 0, nothing},
     {"sandpile_identity", identity, 0, nothing},
     {"sandpile_recurrent", recurrent, 0, nothing},
     {"sandpile_recurrent", recurrent, 16777215, nothing},

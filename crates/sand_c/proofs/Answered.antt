@@ -2,7 +2,7 @@
 use Rattle.std.proofs.Common.{◌≡◌, ℕ, refl, inl, inr}
 use Rattle.std.specs.Prelude.{◌↔◌, Result, Ok, Err, IsOk, IfErr, OnOk}
 use Rattle.sand_c.specs.declared.faults.Fault.{Fault}
-use Rattle.sand_c.specs.declared.faults.Fault.TheVariants.{Side, Length, TooManyGrains, Memory, Full, Unstable, NotRecurrent, Shapes, TooMuch, Rows, Apart, Spent, Missing, Taken, Narrow, NoSite, Empty, OtherPile}
+use Rattle.sand_c.specs.declared.faults.Fault.TheVariants.{Side, Length, TooManyGrains, Memory, Full, Unstable, NotRecurrent, Shapes, TooMuch, Rows, Apart, Spent, Missing, Taken, Narrow, NoSite, Empty, OtherPile, NotTree}
 use Rattle.sand_c.specs.Arguments.{Fails, Answers, Returns}
 use Rattle.sand_c.specs.Faults.{number_of}
 
@@ -27,6 +27,7 @@ refused Narrow n meaning is fails = rw fails is
 refused NoSite n meaning is fails = rw fails is
 refused Empty n meaning is fails = rw fails is
 refused OtherPile n meaning is fails = rw fails is
+refused NotTree n meaning is fails = rw fails is
 
 pub answered : {U A : Type 0} (outcome : Result U Fault) (n : ℕ) (meaning : Result A Fault)
     → (IsOk outcome ↔ (n ≡ 0)) → IfErr outcome (λ e. n ≡ number_of e)

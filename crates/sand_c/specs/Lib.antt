@@ -10,3 +10,4 @@ pub mod OwnedPasses
 pub mod Passing
 pub mod Settling
 pub mod Streams
+pub mod Trees

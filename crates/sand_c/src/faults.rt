@@ -1,10 +1,11 @@
 //! The reasons why a call fails, with the numbers that it returns.
 
 ghost use Rattle.std.specs.Prelude.{◌≡◌, ◌↔◌, IfErr, IsOk};
-ghost use Rattle.sand_c.specs.Faults.{number_of, of_group};
+ghost use Rattle.sand_c.specs.Faults.{number_of, of_group, of_tree};
 ghost use Rattle.sand_c.specs.declared.faults.Fault.TheVariants as c;
 
 use sand_group::GroupFault;
+use sand_trees::TreeFault;
 use std::alloc::{AllocError, AllocFailed};
 
 /// Why a call failed.
@@ -46,6 +47,8 @@ pub enum Fault {
     Empty,
     /// The two passes belong to different piles.
     OtherPile,
+    /// The directions are not a spanning tree.
+    NotTree,
 }
 
 impl Fault {
@@ -72,6 +75,7 @@ impl Fault {
             Fault::NoSite => 25,
             Fault::Empty => 26,
             Fault::OtherPile => 27,
+            Fault::NotTree => 28,
         }
     }
 }
@@ -96,6 +100,18 @@ impl From<GroupFault> for Fault {
             GroupFault::NotRecurrent => Fault::NotRecurrent,
             GroupFault::Shapes => Fault::Shapes,
             GroupFault::Memory(_) => Fault::Memory,
+        }
+    }
+}
+
+impl From<TreeFault> for Fault {
+    ghost from_gives = { λ fault e. e ≡ of_tree fault };
+
+    fn from(fault: TreeFault) -> Fault {
+        match fault {
+            TreeFault::Length => Fault::Length,
+            TreeFault::NotTree => Fault::NotTree,
+            TreeFault::Memory(_) => Fault::Memory,
         }
     }
 }

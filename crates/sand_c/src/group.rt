@@ -14,9 +14,9 @@ use sand_group::{GroupFault, Recurrent, add, equivalent_recurrent, identity, inv
 use sand_model::{Pile, Shape};
 use std::alloc::Global;
 
-// The recurrent pile with these heights.
+/// The recurrent pile with these heights.
 #[tactic(auto, using(crate::proofs::Unfit::unfit, crate::proofs::Unfit::out_of_memory))]
-fn recurrent_on(alloc: Global, shape: Shape, heights: &[u64]) -> Result<Recurrent, Fault>
+pub(crate) fn recurrent_on(alloc: Global, shape: Shape, heights: &[u64]) -> Result<Recurrent, Fault>
     requires len { length heights.now ≡ sites shape }
     requires limit { sum heights.now ≤ most_grains }
     ensures made { IfOk result (λ c. c ≡ record { grid = shape; heights = heights.now }) }

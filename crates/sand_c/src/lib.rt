@@ -24,6 +24,7 @@ mod passing;
 mod reading;
 mod settling;
 mod streams;
+mod trees;
 mod version;
 
 pub use burning::sandpile_burn;
@@ -47,4 +48,5 @@ pub use reading::{sandpile_drive_read, sandpile_drive_site, sandpile_pass_holdin
 pub use sand_settle::Avalanche as SandpileAvalanche;
 pub use settling::{sandpile_settle, sandpile_settle_all};
 pub use streams::sandpile_sites;
+pub use trees::{sandpile_burn_times, sandpile_of_tree, sandpile_random, sandpile_tree};
 pub use version::sandpile_version;
