@@ -12,7 +12,8 @@
    memory. No state is kept between calls, except behind handles (below): threads may call concurrently, on different
    arrays.
 
-   The library needs a processor of x86-64-v2, as most since 2009 are; on another one, a call ends the program by SIGILL.
+   The library needs a processor of x86-64-v2, as most since 2009 are, or of x86-64-v3 if it was built for that, which is
+   if it exports `sandpile_x86_64_v3`. On an older one, a call ends the program by SIGILL.
 
    A call needs at most 24 KiB of stack. Do not call from a signal handler, or in a forked child if its parent had several
    threads. Memory comes from `malloc`, `realloc` and `free`. In a program that replaces them, all three must belong to one

@@ -9,6 +9,7 @@ from pathlib import Path
 
 import crate_list
 import paths
+import processor
 import running
 from paths import TOP
 
@@ -16,7 +17,8 @@ PROGRAM, LIBRARY = "sandpile", "sand_c"  # the crates
 FILES = {PROGRAM: paths.PROGRAM, LIBRARY: paths.LIBRARY}
 CRATES = crate_list.crates()
 MAP = TOP / "include" / "sandpile.map"
-MADE_FROM, MADE_BY = "made-from", "made-by"  # the checksum of each source, and the toolchain's line
+# The checksum of each source; and the toolchain's line, with the processor if it is not that of a release.
+MADE_FROM, MADE_BY = "made-from", "made-by"
 
 
 def out_of(crate: str) -> Path:
@@ -57,6 +59,11 @@ def toolchain() -> str:
     return running.said("rt", "version").rstrip("\n") + "\n"
 
 
+def maker(crate: str, toolchain: str, cpu: str) -> str:
+    """What is noted next to a crate or a product of what it was made by. Only products have code, for a processor."""
+    return toolchain if crate not in FILES or cpu == processor.OLDEST else f"{toolchain.strip()}, for {cpu}\n"
+
+
 def own_sources(crate: str) -> list[str]:
     """A crate's line of crates.txt, and the checksum of each of its sources. Tests and wrong bodies are not sources."""
     folder = TOP / "crates" / crate
@@ -78,7 +85,7 @@ def read(path: Path) -> str:
 
 
 def is_made(crate: str, made_from: str, by: str | None) -> bool:
-    """Whether a crate is built, from these sources, by this toolchain or by any."""
+    """Whether a crate is built, from these sources, by this maker or by any."""
     if read(folder_of(crate) / MADE_FROM) != made_from or not os.access(file_of(crate), os.X_OK):
         return False
     return by is None or read(folder_of(crate) / MADE_BY) == by

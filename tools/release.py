@@ -17,6 +17,7 @@ from pathlib import Path
 from typing import NamedTuple, NoReturn
 
 import paths
+import processor
 import products
 import running
 from paths import TOP
@@ -64,10 +65,12 @@ def compared(product: Path) -> tuple[int, str]:
     made_from, made_by = product.with_name(products.MADE_FROM), product.with_name(products.MADE_BY)
     if not release.has(made_from, made_from.read_bytes()):
         return 0, f"{name} is made from other sources than those of release/SHA256SUMS"
+    kit, by = release.kit.strip(), made_by.read_text().strip()
+    if by.endswith(f", for {processor.NEWER}"):
+        return 0, f"{name} is for {processor.NEWER}; release/SHA256SUMS has the one for {processor.OLDEST}"
     if release.has(product, product.read_bytes()):
         return 0, f"{name} has the same bytes as in release/SHA256SUMS: this machine has proved what the release is"
-    if made_by.read_text() != release.kit:
-        kit = release.kit.strip()
+    if by != kit:
         return 0, f"{name} has other bytes than in release/SHA256SUMS, which {kit} proved: that kit's compiler may differ"
     return 1, (
         f"{name} has other bytes than in release/SHA256SUMS, which is of the same sources and kit: the file was changed after it "

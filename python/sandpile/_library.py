@@ -9,6 +9,7 @@ from typing import Any
 
 import numpy as np
 
+from . import _processor
 from .faults import Fault
 
 _NAME = "libsandpile.so.1"
@@ -16,9 +17,8 @@ _HERE = Path(__file__).resolve().parent
 _CHECKOUT = _HERE.parent.parent / "crates" / "sand_c" / "out"
 # The major version of include/sandpile.h that the declarations below are for.
 _MAJOR = 1
-# What tells of the processor, and what it must have, by the names there: that is x86-64-v2.
-_PROCESSOR = Path("/proc/cpuinfo")
-_NEEDED = ("cx16", "lahf_lm", "pni", "popcnt", "sse4_1", "sse4_2", "ssse3")
+# A library that is compiled for newer processors has this name.
+_IS_NEWER = "sandpile_x86_64_v3"
 
 _SIDES = (ctypes.c_size_t, ctypes.c_size_t, ctypes.c_bool)
 _ARRAY = (ctypes.c_void_p, ctypes.c_size_t)
@@ -68,28 +68,23 @@ def _places() -> list[str]:
     return [*(str(file) for file in files if file.exists()), _NAME]
 
 
-def _check_processor() -> None:
+def _check_processor(place: str, kind: str) -> None:
     """Raises an error if this processor is too old: a call of the library would end the program."""
-    try:
-        with open(_PROCESSOR, "rb") as file:
-            flags = next((line.split()[2:] for line in file if line.startswith(b"flags")), None)
-    except OSError:
-        return
-    missing = [name for name in _NEEDED if flags and name.encode() not in flags]
-    if missing:
+    if missing := _processor.lacking(kind):
         raise ImportError(
-            f"libsandpile needs a processor of x86-64-v2, but this one lacks {', '.join(missing)} (a virtual machine has what "
-            "its model of a processor has; that of qemu64 is too old)"
+            f"{place} needs a processor of {kind}, but this one lacks {', '.join(missing)} (a virtual machine has what its model of "
+            f"a processor has; that of qemu64 is too old); in the repository, ./build library makes one for the processor that it "
+            f"runs on, of {_processor.OLDEST} or newer"
         )
 
 
 def _load() -> ctypes.CDLL:
-    _check_processor()
     place = _places()[0]
     try:
         library = ctypes.CDLL(place)
     except OSError as error:
         raise ImportError(f"{place} cannot be loaded ({error}); in the repository, ./build library builds it") from None
+    _check_processor(place, _processor.NEWER if hasattr(library, _IS_NEWER) else _processor.OLDEST)
     try:
         # Another major version may have other calls, so the version comes first.
         major = _declared(library, "version")() // 10000

@@ -1,14 +1,18 @@
 """Which library is loaded, and which are refused."""
 
 import os
+import shutil
 import unittest
 from unittest import mock
 
 import sandpile
-from sandpile import _library
+from sandpile import _library, _processor
 from tools import needs, new_folder, ran
 
 NAMES = {f"sandpile_{name}" for name in _library._TAKES}
+# What the x86-64 psABI asks of each kind of processor, by the kernel's names.
+OLDEST = "cx16 lahf_lm pni popcnt sse4_1 sse4_2 ssse3".split()
+KINDS = {"x86-64-v2": OLDEST, "x86-64-v3": [*OLDEST, *"abm avx avx2 bmi1 bmi2 f16c fma movbe xsave".split()]}
 
 
 class Loaded(unittest.TestCase):
@@ -24,23 +28,42 @@ class Loaded(unittest.TestCase):
         ran("cc", "-shared", "-fPIC", folder / "made.c", "-o", folder / "made.so")
         return folder / "made.so"
 
+    def lacking(self, told, kind, name, missing):
+        """Loads a library on a processor that has what this kind must have, but not these."""
+        has = [flag for flag in ("fpu", "sse", "sse2", "syscall", "nx", "lm", *KINDS[kind]) if flag not in missing]
+        told.write_text(f"processor\t: 0\nmodel name\t: \u00ae\nflags\t\t: {' '.join(has)}\nflags\t\t: fpu\n", "utf-8")
+        if missing:
+            with self.assertRaisesRegex(ImportError, f"needs a processor of {kind}, but .* lacks {', '.join(missing)} "):
+                self.loaded(name)
+        else:
+            self.loaded(name)
+
     def test_an_old_processor_is_refused(self):
-        flags = "fpu sse sse2 syscall nx lm cx16 lahf_lm pni popcnt sse4_1 sse4_2 ssse3".split()
         told = new_folder(self) / "cpuinfo"
-        with mock.patch.object(_library, "_PROCESSOR", told):
-            for missing in ([], ["sse4_2"], ["popcnt", "ssse3"]):
-                has = [name for name in flags if name not in missing]
-                told.write_text(f"processor\t: 0\nmodel name\t: \u00ae\nflags\t\t: {' '.join(has)}\nflags\t\t: fpu\n", "utf-8")
-                if missing:
-                    with self.assertRaisesRegex(ImportError, f"needs a processor of x86-64-v2, but .* lacks {', '.join(missing)} "):
-                        self.loaded("")
-                else:
-                    self.loaded("")
-            for text in ("", "Features\t: fp asimd\n"):  # of another kind of processor: the loader says so
-                told.write_text(text)
-                self.loaded("")
+        libraries = {"x86-64-v3" if hasattr(_library.library, "sandpile_x86_64_v3") else "x86-64-v2": ""}
+        if shutil.which("cc"):
+            libraries = {"x86-64-v2": self.made(10000, NAMES), "x86-64-v3": self.made(10000, {*NAMES, "sandpile_x86_64_v3"})}
+        with mock.patch.dict(_processor.lacking.__globals__, _TOLD=told):
+            for kind, name in libraries.items():
+                for missing in ([], ["sse4_2"], ["popcnt", "ssse3"], *([["avx2"], ["abm", "movbe"]] if kind == "x86-64-v3" else [])):
+                    self.lacking(told, kind, name, missing)
+                for text in ("", "Features\t: fp asimd\n"):  # of another kind of processor: the loader says so
+                    told.write_text(text)
+                    self.loaded(name)
+                told.unlink()
+                self.loaded(name)
+
+    def test_the_newest_kind(self):
+        told = new_folder(self) / "cpuinfo"
+        with mock.patch.dict(_processor.lacking.__globals__, _TOLD=told):
+            for text, kind in (
+                (" ".join(KINDS["x86-64-v3"]), "x86-64-v3"), (" ".join(KINDS["x86-64-v2"]), "x86-64-v2"), ("", "x86-64-v2"),
+                (" ".join(KINDS["x86-64-v3"]).replace("fma ", ""), "x86-64-v2"),
+            ):
+                told.write_text(f"flags\t\t: {text}\n")
+                self.assertEqual(_processor.newest(), kind)
             told.unlink()
-            self.loaded("")
+            self.assertEqual(_processor.newest(), "x86-64-v2")
 
     def test_an_empty_name_is_not_set(self):
         self.assertEqual(self.loaded("")._name, self.loaded(_library.library._name)._name)

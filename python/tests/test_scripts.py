@@ -7,13 +7,14 @@ import subprocess
 import unittest
 from pathlib import Path
 
+import processor
 from tools import TOP, files_in, needs, new_folder, ran, stand_in
 
 PARTS = [
     "tools/wrong-bodies", "tools/statement", "build", "tools/cases", "tools/at-a-terminal", "python/tests/run", "tools/try-examples",
     "tools/other-debian", "tools/refusals",
 ]
-SHARED = ["tools/paths.py", "tools/running.py", "tools/crate_list.py"]
+SHARED = ["tools/paths.py", "tools/running.py", "tools/crate_list.py", "tools/processor.py", "python/sandpile/_processor.py"]
 SYSTEM = "/usr/bin:/bin"
 lacks_rt = unittest.skipIf(shutil.which("rt", path=SYSTEM), "`rt` is one of the system's commands")
 
@@ -66,7 +67,7 @@ class OfCheck(OfScripts):
     def test_the_checkout_stays_as_it_is(self):
         before = files_in(self.top)
         status, said, _ = self.run_in("./check")
-        self.assertEqual((status, said.splitlines()[-1]), (0, "23 passed, 0 failed"))
+        self.assertEqual((status, said.splitlines()[-1]), (0, "27 passed, 0 failed"))
         self.assertEqual(files_in(self.top), before)
         self.assertEqual(list(self.room.iterdir()), [])
 
@@ -92,7 +93,7 @@ class OfCheck(OfScripts):
         for words, lines, call in (([], [], "rt ci"), (["--anew"], [], "rt ci"), (["--anew"], [has_word], "rt ci --anew")):
             stand_in(rt, *lines, '[ $1 = help ] && echo ci && exit', *proves.splitlines()[1:])
             status, said, _ = self.run_in("./check", *words)
-            self.assertEqual((status, said.splitlines()[-1]), (0, "23 passed, 0 failed"))
+            self.assertEqual((status, said.splitlines()[-1]), (0, "27 passed, 0 failed"))
             self.assertEqual(self.noted(), [call])
 
     def test_a_failed_part_is_the_last(self):
@@ -140,8 +141,9 @@ class WithToolchain(OfScripts):
         # The toolchain makes what `-o` names, of the crate's source; a library is a folder.
         stand_in(
             self.kit / "bin/rattle",
-            'for word; do [ "$before" = -o ] && made=$word; [[ $word = *=*/statements/*.rlib ]] && used=$word; before=$word; done',
-            'echo "$3 over $used" >> "$LOG"', '[ ! -e "$LOG.fail" ] || exit 1',
+            'for word; do [ "$before" = -o ] && made=$word; [[ $word = *=*/statements/*.rlib ]] && used=$word',
+            '[ "$before" = --cpu ] && cpu=" for $word"; before=$word; done', 'echo "$3 over $used$cpu" >> "$LOG"',
+            '[ ! -e "$LOG.fail" ] || exit 1',
             '[[ $made = *.rlib ]] && mkdir -p "$made" && made=$made/format', 'cat src/*.rt > "$made"',
         )
         stand_in(
@@ -171,7 +173,7 @@ class OfBuild(WithToolchain):
     def test_a_change_is_built(self):
         self.assertEqual(self.run_in("./sandpile")[:2], (0, "crates/sandpile/src/main.rt\n"))
         low = self.top / "crates/low/out/statements/low.rlib"
-        self.assertEqual(self.noted()[:2], ["low over ", f"sandpile over low={low}"])
+        self.assertEqual(self.noted()[:2], ["low over ", f"sandpile over low={low} for {processor.newest()}"])
         self.assertEqual(self.run_in("./sandpile"), (0, "crates/sandpile/src/main.rt\n", ""))
         self.assertEqual(self.noted(), [])
         self.change("sandpile", "changed")
@@ -199,6 +201,28 @@ class OfBuild(WithToolchain):
         self.run_in("./build")
         self.assertEqual(self.proved(), ["low", "sandpile"])
 
+    def test_each_processor_has_products_of_its_own(self):
+        other = ({processor.OLDEST, processor.NEWER} - {processor.newest()}).pop()
+        self.run_in("./build")
+        for words, proved, cpu in (
+            (["--cpu", other], ["sandpile"], other), (["--cpu", other], [], other), ([], ["sandpile"], processor.newest()),
+            (["--cpu", "x86-64-v9"], None, ""), (["wheel", "--cpu", other], None, ""),
+        ):
+            self.noted()
+            status, _, reported = self.run_in("./build", *words)
+            self.assertEqual((status, self.proved()), (2, []) if proved is None else (0, proved), reported)
+            self.assertEqual(f"for processors of {cpu}\n" in reported, bool(proved), reported)
+        made_by = self.top / "crates/sandpile/out/made-by"
+        self.assertEqual(made_by.read_text(), "kit\n" if processor.newest() == processor.OLDEST else "kit, for x86-64-v3\n")
+
+    def test_a_library_for_newer_processors_says_so(self):
+        linker = self.kit / "toolchain/bin/ld.lld"
+        linker.write_text(f'{linker.read_text()}echo "links $*" >> "$LOG"\n')
+        for cpu in (processor.OLDEST, processor.NEWER):
+            self.run_in("./build", "library", "--cpu", cpu)
+            linked, = (line for line in self.noted() if line.startswith("links "))
+            self.assertEqual("--defsym=sandpile_x86_64_v3=0" in linked, cpu == processor.NEWER)
+
     @lacks_rt
     def test_without_the_toolchain(self):
         without = {**self.env, "PATH": SYSTEM}
@@ -209,7 +233,7 @@ class OfBuild(WithToolchain):
         status, said, reported = self.run_in("./sandpile", env=without)
         self.assertEqual((status, said), (1, ""))
         self.assertEqual(reported.splitlines(), [
-            "build: a source or the toolchain has changed since sandpile was built",
+            "build: sandpile was built from other sources, by another toolchain or for another processor",
             "build: `rt` is not on the PATH, and it is the Rattle toolchain, which proves and builds everything",
         ])
 
@@ -316,6 +340,8 @@ class OfRelease(WithToolchain):
         self.noted()
 
     def last_line(self, *words):
+        if words[0] == "./build" and "wheel" not in words:
+            words += ("--cpu", processor.OLDEST)
         status, said, reported = self.run_in(*words)
         self.assertEqual(said, "")
         return status, reported.splitlines()[-1]
@@ -340,6 +366,10 @@ class OfRelease(WithToolchain):
         self.assertEqual(self.last_line("./build"), (0, said))
         said = said.replace("crates/sandpile/out/sandpile", "dist/sandpile-2.whl")
         self.assertEqual(self.last_line("./build", "wheel"), (0, said))
+
+    def test_one_for_newer_processors_is_not_the_release(self):
+        said = self.run_in("./build", "--cpu", processor.NEWER)[2].splitlines()[-1]
+        self.assertEqual(said, "build: crates/sandpile/out/sandpile is for x86-64-v3; release/SHA256SUMS has the one for x86-64-v2")
 
     def test_a_bit_is_flipped(self):
         for file, words in ((self.program, []), (self.top / "crates/sand_c/out/libsandpile.so.1", ["library"])):
