@@ -45,7 +45,7 @@ _NO_HEIGHTS = np.empty((0, 0), np.int64)
 _COUNT = np.arange(_MOST_IN_BLOCK, dtype=np.int64)
 
 # What a copy of a run does not take over.
-_OF_THIS_PROCESS = {"_handle", "_ahead", "_found", "_block"}
+_OF_THIS_PROCESS = {"_handle", "_ahead", "_found", "_block", "_go_on"}
 
 
 class _Room:
@@ -73,6 +73,8 @@ _Call = Tuple[Any, ...]
 _Called = Callable[[int, int, int], _Call]
 # How many drops are wanted, and what makes them.
 _Wanted = Tuple[int, _Called]
+# How many drops are wanted, and where the sites are of those from one up to another.
+_Places = Tuple[int, Callable[[int, int], int]]
 
 
 def _drop(sites: int, n: int, found: int) -> _Call:
@@ -83,6 +85,11 @@ def _drop(sites: int, n: int, found: int) -> _Call:
 def _avalanche(site: int, found: int, topplings: int, sites: int) -> _Call:
     """The call that drops a grain at a site, and writes the topplings of each of the `sites` at an address."""
     return "sandpile_drive_avalanche", site, found, topplings, sites
+
+
+def _site_in(address: int) -> int:
+    """The site at an address."""
+    return ctypes.c_int64.from_address(address).value
 
 
 def _block(run: Drive, block: _Block, name: str, *arguments: Any) -> None:
@@ -176,6 +183,7 @@ class Drive(HasPile):
         self._ahead = (0, _Room(np.empty(0, np.int64)))  # a place in the stream, and the sites from there on
         self._found = _Room(np.empty(_FEW, _AVALANCHE))
         self._block: Optional[_Block] = None  # the last one, unless it is known to be made
+        self._go_on: Optional[Callable[[], None]] = None  # called before each block; may raise an error
 
     def _now(self) -> _State:
         """The state, in which a block counts that was made just before Ctrl-C came. Only under `use` of the handle."""
@@ -341,7 +349,7 @@ class Drive(HasPile):
         ((5, 1, 2), True)
         """
         if odometers:
-            return self._drop_with_odometers(n, progress)
+            return self._with_odometers(lambda: (count_of(n, "n"), lambda begin, end: self._draw(end - begin)), progress, draws=True)
         return self._drop(self._at_random(n), progress, draws=True)
 
     def _at_random(self, n: SupportsIndex) -> Callable[[], _Wanted]:
@@ -356,21 +364,36 @@ class Drive(HasPile):
         """Makes a block of at most so many drops at random sites. Only under the lock for drops."""
         return self._make_all(self._at_random(min(most, self._most)), False, True, self._most)
 
-    def _drop_with_odometers(self, n: SupportsIndex, progress: bool) -> tuple[NDArray[np.void], Heights]:
+    def _with_odometers(
+        self, ask: Callable[[], _Places], progress: bool, draws: bool
+    ) -> tuple[NDArray[np.void], Heights]:
+        """Makes the drops that `ask` returns when it has checked the arguments, one by one. Returns the table, and the topplings of
+        each."""
         topplings: Heights = _NO_HEIGHTS
 
         def asked() -> _Wanted:
             nonlocal topplings
-            drops = count_of(n, "n")
+            drops, place = ask()
             self._check_grains(drops)
             topplings = new_array((drops, *self._shape), np.int64, f"the topplings of {drops} drops")
             at, sites = topplings.ctypes.data, self._sites
             step = sites * topplings.itemsize
-            return drops, lambda begin, _, found: _avalanche(self._next_site(), found, at + begin * step, sites)
+            return drops, lambda begin, end, found: _avalanche(_site_in(place(begin, end)), found, at + begin * step, sites)
 
-        return self._drop(asked, progress, draws=True, most=1), topplings
+        return self._drop(asked, progress, draws, most=1), topplings
 
-    def blocks(self, n: SupportsIndex, size: SupportsIndex) -> Iterator[NDArray[np.void]]:
+    @overload
+    def blocks(self, n: SupportsIndex, size: SupportsIndex, odometers: Literal[False] = False) -> Iterator[NDArray[np.void]]: ...
+
+    @overload
+    def blocks(
+        self, n: SupportsIndex, size: SupportsIndex, odometers: Literal[True]
+    ) -> Iterator[tuple[NDArray[np.void], Heights]]: ...
+
+    @overload
+    def blocks(self, n: SupportsIndex, size: SupportsIndex, odometers: bool = False) -> Iterator[Any]: ...
+
+    def blocks(self, n: SupportsIndex, size: SupportsIndex, odometers: bool = False) -> Iterator[Any]:
         """Drops `n` grains at the next random sites, and yields their table in parts, so not all rows are in memory at once.
 
         Each part is a call of `drop`, made when it is asked for. So between two of them the run has the drops of the parts
@@ -382,10 +405,12 @@ class Drive(HasPile):
             Number of grains.
         size : int
             The rows of each part, at least 1; the last part may have fewer.
+        odometers : bool
+            As for `drop`.
 
         Returns
         -------
-        iterator of numpy.ndarray
+        iterator
             The parts, each as from `drop`.
 
         Raises
@@ -404,11 +429,30 @@ class Drive(HasPile):
         [300, 300, 300, 100]
         """
         drops, most = count_of(n, "n"), count_of(size, "size", least=1)
-        return (self.drop(min(most, drops - begin)) for begin in range(0, drops, most))
+        return (self.drop(min(most, drops - begin), odometers=odometers) for begin in range(0, drops, most))
+
+    @overload
+    def drop_at(
+        self, sites: ArrayLike | None = None, *, rows: ArrayLike | None = None, columns: ArrayLike | None = None,
+        odometers: Literal[False] = False,
+    ) -> NDArray[np.void]: ...
+
+    @overload
+    def drop_at(
+        self, sites: ArrayLike | None = None, *, rows: ArrayLike | None = None, columns: ArrayLike | None = None,
+        odometers: Literal[True],
+    ) -> tuple[NDArray[np.void], Heights]: ...
+
+    @overload
+    def drop_at(
+        self, sites: ArrayLike | None = None, *, rows: ArrayLike | None = None, columns: ArrayLike | None = None,
+        odometers: bool = False,
+    ) -> Any: ...
 
     def drop_at(
-        self, sites: ArrayLike | None = None, *, rows: ArrayLike | None = None, columns: ArrayLike | None = None
-    ) -> NDArray[np.void]:
+        self, sites: ArrayLike | None = None, *, rows: ArrayLike | None = None, columns: ArrayLike | None = None,
+        odometers: bool = False,
+    ) -> Any:
         """Drops a grain at each of these sites in turn. Uses no random sites.
 
         Parameters
@@ -419,11 +463,15 @@ class Drive(HasPile):
         rows, columns : array_like of int
             Instead of `sites`, their rows and their columns, each from 0. They are broadcast, and taken row by row if there
             are several dimensions.
+        odometers : bool
+            As for `drop`.
 
         Returns
         -------
-        numpy.ndarray
+        table : numpy.ndarray
             The avalanches, as from `drop`.
+        topplings : numpy.ndarray
+            Only with `odometers`, as from `drop`.
 
         Raises
         ------
@@ -444,12 +492,22 @@ class Drive(HasPile):
         array([1, 0])
         >>> sandpile.Drive([[3, 2], [3, 3]]).drop_at(rows=[0, 1], columns=1)["site"]
         array([1, 3])
+        >>> sandpile.Drive([[0, 3, 0]]).drop_at([1, 1], odometers=True)[1]
+        array([[[0, 1, 0]],
+        <BLANKLINE>
+               [[0, 0, 0]]])
         """
 
-        def asked() -> _Wanted:
+        def places() -> _Places:
             room = _Room(sites_at(sites, rows, columns, self._shape))
-            return room.array.size, lambda begin, end, found: _drop(room.at + begin * _SITE, end - begin, found)
+            return room.array.size, lambda begin, _: room.at + begin * _SITE
 
+        def asked() -> _Wanted:
+            n, place = places()
+            return n, lambda begin, end, found: _drop(place(begin, end), end - begin, found)
+
+        if odometers:
+            return self._with_odometers(places, progress=False, draws=False)
         return self._drop(asked, progress=False, draws=False)
 
     def avalanche(
@@ -525,6 +583,8 @@ class Drive(HasPile):
         n = len(table)
         for begin in range(0, n, most):
             end = min(begin + most, n)
+            if self._go_on:
+                self._go_on()
             found = self._room(end - begin)
             _block(self, self._made(found, table, begin, end, draws), *called(begin, end, found.at))
             if show:
@@ -551,7 +611,7 @@ class Drive(HasPile):
 
     def _next_site(self) -> int:
         """The next site of the stream. The drop there is yet to be made."""
-        return ctypes.c_int64.from_address(self._draw(1)).value
+        return _site_in(self._draw(1))
 
     def _draw(self, n: int) -> int:
         """The address of the next `n` sites of the stream, after those used so far."""
@@ -660,6 +720,7 @@ class Drive(HasPile):
         if saved.drops == self.drops:
             return
         again, was = Drive._of(saved), self._handle
+        again._go_on = self._go_on
         with was.use:
             # Both locks stay, since other threads may wait for them. In one step, so Ctrl-C can come at any time.
             again._handle.use, again._handle._dropping = was.use, was._dropping

@@ -12,13 +12,13 @@ from typing import Any
 
 
 class Bar:
-    """Shows how many of `total` drops are done: with tqdm if it is installed, else on a line that is overwritten.
+    """Shows how many of `total` drops, or other units, are done: with tqdm if it is installed, else on a line that is overwritten.
 
     No failure to show them ends the call: if tqdm fails, the line is written, and if that fails, nothing.
     """
 
-    def __init__(self, total: int) -> None:
-        self._total, self._shown_at, self._is_shown = total, 0.0, True
+    def __init__(self, total: int, unit: str = "drop") -> None:
+        self._total, self._unit, self._shown_at, self._is_shown = total, unit, 0.0, True
         self._tqdm: Any = None
         self._lock: Any = None  # of tqdm
 
@@ -28,13 +28,13 @@ class Bar:
                 warnings.simplefilter("ignore")  # in a notebook without ipywidgets the bar is text, which is fine
                 tqdm: Any = importlib.import_module("tqdm.auto").tqdm
             self._lock = tqdm.get_lock()
-            self._tqdm = tqdm(total=self._total, unit="drop", unit_scale=True)
+            self._tqdm = tqdm(total=self._total, unit=self._unit, unit_scale=True)
         except Exception:
             self._release()
         return self
 
     def show(self, done: int) -> None:
-        """Shows that `done` drops are done, at most ten times a second."""
+        """Shows that so many are done, at most ten times a second."""
         if self._tqdm is not None:
             try:
                 self._tqdm.update(done - self._tqdm.n)
@@ -44,7 +44,7 @@ class Bar:
                 self._release()
         if done == self._total or time.monotonic() - self._shown_at > 0.1:
             self._shown_at = time.monotonic()
-            self._write(f"\r{done:,} of {self._total:,} drops")
+            self._write(f"\r{done:,} of {self._total:,} {self._unit}s")
 
     def __exit__(self, kind: type[BaseException] | None, error: BaseException | None, trace: TracebackType | None) -> None:
         if kind is not None:

@@ -13,7 +13,9 @@ import weakref
 from collections import deque
 from concurrent.futures import CancelledError, Future, ThreadPoolExecutor
 from dataclasses import dataclass
-from typing import Any, Callable, Deque, Generator, Iterable, Iterator, Sequence, Sized, SupportsIndex, Tuple, Union, cast
+from typing import (
+    Any, Callable, Deque, Generator, Iterable, Iterator, Optional, Sequence, Sized, SupportsIndex, Tuple, TypeVar, Union, cast, overload,
+)
 
 import numpy as np
 from numpy.typing import ArrayLike, NDArray
@@ -30,13 +32,14 @@ REPLICA = np.dtype([("stream", "i8"), *AVALANCHE.descr])
 _AVALANCHE = list(AVALANCHE.names or ())
 
 _Table = NDArray[np.void]
-_Tables = Generator[_Table, None, None]
-_Submitted = Deque[Tuple[int, "Future[_Table]"]]
+_Result = TypeVar("_Result")
+_Results = Generator[Any, None, None]  # the table of each replica, or what the function of `each` returns
+_Submitted = Deque[Tuple[int, "Future[Any]"]]
 _Start = Union[ArrayLike, Tuple[int, int], Callable[[int], ArrayLike]]
 
 
-class Replicas(Iterator[_Table]):
-    """The tables of replicas, one for each stream, in the order of the streams.
+class Replicas(Iterator[_Result]):
+    """The results of replicas, one for each stream, in the order of the streams: their tables, or what a function returns.
 
     `close` ends an iterator early: it cancels the replicas that have not begun, ends those on threads, between two calls of
     the library, and waits for threads of its own. An error, Ctrl-C or the end of the iterator does the same. Ctrl-C of a
@@ -49,15 +52,16 @@ class Replicas(Iterator[_Table]):
         The seed of all replicas.
     """
 
-    def __init__(self, seed: int, tables: _Tables) -> None:
-        self.seed, self._tables = seed, tables
+    def __init__(self, seed: int, results: _Results) -> None:
+        self.seed, self._results = seed, results
 
-    def __next__(self) -> _Table:
-        return next(self._tables)
+    def __next__(self) -> _Result:
+        result: _Result = next(self._results)
+        return result
 
     def close(self) -> None:
         """Cancels the replicas that have not begun."""
-        self._tables.close()
+        self._results.close()
 
 
 @dataclass(frozen=True)
@@ -68,6 +72,7 @@ class _Plan:
     cylinder: bool | None
     seed: int
     drops: int
+    each: Optional[Callable[[Drive], Any]]
     key: bytes  # no other plan has it
 
     def run(self, stream: int, go_on: Callable[[], None]) -> Drive:
@@ -86,8 +91,8 @@ class _Plan:
 _ended: set[bytes] = set()
 
 
-def _replica(plan: _Plan, stream: int, stop: threading.Event | None = None) -> _Table:
-    """The table of a replica."""
+def _replica(plan: _Plan, stream: int, stop: threading.Event | None = None) -> Any:
+    """The table of a replica, or what its function returns."""
 
     def go_on() -> None:
         """Ends a replica that nobody waits for."""
@@ -96,7 +101,7 @@ def _replica(plan: _Plan, stream: int, stop: threading.Event | None = None) -> _
 
     try:
         go_on()
-        return _table(plan, stream, go_on)
+        return (_table if plan.each is None else _measured)(plan, stream, go_on)
     except KeyboardInterrupt:
         _ended.add(plan.key)
         raise
@@ -112,6 +117,17 @@ def _table(plan: _Plan, stream: int, go_on: Callable[[], None]) -> _Table:
     return table
 
 
+def _measured(plan: _Plan, stream: int, go_on: Callable[[], None]) -> Any:
+    """What the function of a plan returns for a replica. All blocks of drops go on only if the replica does."""
+    run, each = plan.run(stream, go_on), cast(Callable[[Drive], Any], plan.each)
+    run._go_on = go_on
+    try:
+        run.drop(plan.drops)
+        return each(run)
+    finally:
+        run._go_on = None  # the function may return the run itself
+
+
 # Python waits for all threads before it runs what `atexit` has. So that the program ends soon after an error or Ctrl-C while
 # an iterator still exists, the threads are stopped before.
 _stops: weakref.WeakSet[threading.Event] = weakref.WeakSet()
@@ -125,6 +141,22 @@ def _stop_all() -> None:
 getattr(threading, "_register_atexit", atexit.register)(_stop_all)
 
 
+@overload
+def replicas(
+    start: _Start, seed: SupportsIndex | np.random.SeedSequence | None, streams: Iterable[SupportsIndex], drops: SupportsIndex,
+    executor: Any = None, cylinder: bool | None = None, window: SupportsIndex | None = None, progress: bool = False,
+    each: None = None,
+) -> Replicas[_Table]: ...
+
+
+@overload
+def replicas(
+    start: _Start, seed: SupportsIndex | np.random.SeedSequence | None, streams: Iterable[SupportsIndex], drops: SupportsIndex,
+    executor: Any = None, cylinder: bool | None = None, window: SupportsIndex | None = None, progress: bool = False, *,
+    each: Callable[[Drive], _Result],
+) -> Replicas[_Result]: ...
+
+
 def replicas(
     start: _Start,
     seed: SupportsIndex | np.random.SeedSequence | None,
@@ -134,10 +166,11 @@ def replicas(
     cylinder: bool | None = None,
     window: SupportsIndex | None = None,
     progress: bool = False,
-) -> Replicas:
-    """Drops grains in many replicas at once, and yields the table of each.
+    each: Callable[[Drive], Any] | None = None,
+) -> Replicas[Any]:
+    """Drops grains in many replicas at once, and yields the table of each, or what a function returns of it.
 
-    The tables are the same whatever runs the replicas. They come in the order of `streams`, each as soon as it and those
+    The results are the same whatever runs the replicas. They come in the order of `streams`, each as soon as it and those
     before it are made. Nothing runs until the first is asked for.
 
     Parameters
@@ -163,14 +196,19 @@ def replicas(
         How many replicas at most are under way or wait to be taken; each has a table of 56 bytes a drop. By default it is
         twice the number that the executor runs at once, or twice the number of processors if it does not tell.
     progress : bool
-        Whether to show on standard error how many drops the tables so far have, as `Drive.drop` does. `streams` must then
-        have a length.
+        Whether to show on standard error how many drops the tables so far have, as `Drive.drop` does, or with `each`, how
+        many replicas are done. `streams` must then have a length.
+    each : callable, optional
+        A function of a `Drive`, called once for each replica, where the replica runs, when it has made its drops; its results
+        are yielded, and no tables. `Drive.table` has the rows of the drops. The function may drop more grains: with
+        ``drops=0`` it measures as it likes, such as by `Drive.blocks` in little memory. For processes it must be one that can
+        be pickled, such as one of a module, and so must its results.
 
     Returns
     -------
     Replicas
-        An iterator of structured arrays with the column `stream`, and then those of `Drive.drop`. It has the `seed` of the
-        replicas, and `close` ends it early.
+        An iterator of structured arrays with the column `stream`, and then those of `Drive.drop`; or of the results of
+        `each`. It has the `seed` of the replicas, and `close` ends it early.
 
     Raises
     ------
@@ -179,7 +217,7 @@ def replicas(
     ValueError, TypeError
         As from `Drive`, or TypeError if another argument has the wrong type.
     RuntimeError
-        From the iterator, if a replica fails. It names the stream, and its ``__cause__`` is the error.
+        From the iterator, if a replica fails, or `each` does. It names the stream, and its ``__cause__`` is the error.
 
     See Also
     --------
@@ -194,8 +232,12 @@ def replicas(
     0 100 True
     1 100 True
     2 100 True
+    >>> list(sandpile.replicas((32, 32), seed=7, streams=range(3), drops=100, each=lambda run: len(run.table)))
+    [100, 100, 100]
     """
-    plan = _Plan(*_start_of(start, cylinder), seed_of(seed), count_of(drops, "drops"), os.urandom(16))
+    if each is not None and not callable(each):
+        raise TypeError(f"each must be a function of a Drive, not {each!r}")
+    plan = _Plan(*_start_of(start, cylinder), seed_of(seed), count_of(drops, "drops"), each, os.urandom(16))
     executor, workers = _workers_of(executor)
     most = count_of(2 * workers if window is None else window, "window", least=1)
     try:
@@ -204,12 +246,13 @@ def replicas(
         raise TypeError(f"streams must be several integers, such as range(4), not {streams!r}") from None
     left = (count_of(stream, "stream", _MOST_STREAM) for stream in given)
     if executor is None or isinstance(executor, ThreadPoolExecutor):
-        tables = _in_threads(plan, left, most, executor)
+        results = _in_threads(plan, left, most, executor)
     else:
-        tables = _in_order(left, functools.partial(executor.submit, _replica, plan), most)
+        results = _in_order(left, functools.partial(executor.submit, _replica, plan), most)
     if progress:
-        tables = _shown(tables, len(cast(Sized, streams)) * plan.drops)
-    return Replicas(plan.seed, tables)
+        count = len(cast(Sized, streams))
+        results = _shown(results, count, "replica") if each else _shown(results, count * plan.drops, "drop")
+    return Replicas(plan.seed, results)
 
 
 def _start_of(start: _Start, cylinder: bool | None) -> tuple[Any, bool | None]:
@@ -235,8 +278,8 @@ def _workers_of(executor: Any) -> tuple[Any, int]:
     return executor, getattr(executor, "_max_workers", None) or processors
 
 
-def _in_order(streams: Iterator[int], submit: Callable[[int], Future[_Table]], window: int) -> _Tables:
-    """The tables in the order of the streams. At most `window` of them are under way or wait to be taken."""
+def _in_order(streams: Iterator[int], submit: Callable[[int], Future[Any]], window: int) -> _Results:
+    """The results in the order of the streams. At most `window` of them are under way or wait to be taken."""
     submitted: _Submitted = deque()
     try:
         while True:
@@ -250,19 +293,19 @@ def _in_order(streams: Iterator[int], submit: Callable[[int], Future[_Table]], w
             future.cancel()
 
 
-def _first(submitted: _Submitted) -> _Table:
-    """The table of the first replica, once it is there."""
+def _first(submitted: _Submitted) -> Any:
+    """The result of the first replica, once it is there."""
     stream, future = submitted[0]
     try:
-        table = future.result()
+        result = future.result()
     except Exception as error:
         raise RuntimeError(f"the replica of stream {stream} failed: {type(error).__name__}: {error}") from error
     submitted.popleft()
-    return table
+    return result
 
 
-def _in_threads(plan: _Plan, streams: Iterator[int], window: int, executor: ThreadPoolExecutor | None) -> _Tables:
-    """The tables of replicas on threads, which end with this iterator: on those given, or on new ones, which end, too."""
+def _in_threads(plan: _Plan, streams: Iterator[int], window: int, executor: ThreadPoolExecutor | None) -> _Results:
+    """The results of replicas on threads, which end with this iterator: on those given, or on new ones, which end, too."""
     stop = threading.Event()
     _stops.add(stop)
     with contextlib.ExitStack() as own:
@@ -273,11 +316,11 @@ def _in_threads(plan: _Plan, streams: Iterator[int], window: int, executor: Thre
             stop.set()
 
 
-def _shown(tables: _Tables, drops: int) -> _Tables:
-    """The same tables. Shows how many of all drops they have."""
+def _shown(results: _Results, total: int, unit: str) -> _Results:
+    """The same results. Shows how many of all drops or replicas they have."""
     done = 0
-    with contextlib.closing(tables), Bar(drops) as bar:
-        for table in tables:
-            done += len(table)
+    with contextlib.closing(results), Bar(total, unit) as bar:
+        for result in results:
+            done += len(result) if unit == "drop" else 1
             bar.show(done)
-            yield table
+            yield result

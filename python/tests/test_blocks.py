@@ -108,6 +108,29 @@ class Odometers(unittest.TestCase):
             self.assertTrue(same(one.drop(10), other.drop(10)))
             self.assertTrue(equal(one, other))
 
+    def test_in_blocks(self):
+        one, other = two_runs()
+        parts = list(one.blocks(70, 30, odometers=True))
+        self.assertEqual([len(table) for table, _ in parts], [30, 30, 10])
+        for found, expected in zip(map(np.concatenate, zip(*parts)), other.drop(70, odometers=True)):
+            self.assertTrue(same(found, expected))
+
+    def test_at_sites(self):
+        for words in ({"sites": [7, 7, 990]}, {"sites": 40}, {"rows": [[0, 1], [2, 3]], "columns": [5, 31]}, {"sites": []}):
+            one, other = two_runs()
+            table, topplings = one.drop_at(**words, odometers=True)
+            self.assertTrue(same(table, other.drop_at(**words)))
+            self.assertTrue(same(topplings.sum(axis=0), one.odometer - sandpile.Drive(FULL + 1).odometer))
+            self.assertEqual(topplings.sum(axis=(1, 2)).tolist(), table["size"].tolist())
+            self.assertTrue(equal(one, other))
+
+    def test_at_sites_that_are_none(self):
+        run = sandpile.Drive(FULL)
+        table = run.drop(3)
+        self.assertRaisesRegex(sandpile.Fault, "fault 25 NoSite: drop 1 is at", run.drop_at, [5, 1024], odometers=True)
+        self.assertRaises(TypeError, run.drop_at, odometers=True)
+        self.assertIs(run.table, table)
+
     def test_none(self):
         run = sandpile.Drive(FULL)
         table, topplings = run.drop(0, odometers=True)

@@ -30,6 +30,7 @@ class Cluster(unittest.TestCase):
         with LocalCluster(n_workers=2, threads_per_worker=2, **quiet) as cluster, Client(cluster) as client:
             counts = client.gather(client.map(histogram, range(STREAMS)))
             tables = [list(sandpile.replicas((9, 8), 7, range(6), DROPS, by)) for by in (client, client.get_executor(), None)]
+            greatest = [*sandpile.replicas((9, 8), 7, range(6), DROPS, client, each=lambda run: run.table["size"].max())]
             with self.assertRaisesRegex(RuntimeError, "the replica of stream 5 failed: Fault: fault 1 Side") as failed:
                 next(sandpile.replicas(too_wide, 7, [5], DROPS, client))
             with self.assertRaises(sandpile.Fault) as caught:
@@ -37,5 +38,6 @@ class Cluster(unittest.TestCase):
         self.assertEqual([caught.exception.number, failed.exception.__cause__.number], [1, 1])
         self.assertTrue(all(same(one, other) for others in tables[:2] for one, other in zip(others, tables[2])))
         self.assertEqual(list(map(len, tables)), [6, 6, 6])
+        self.assertEqual(greatest, [table["size"].max() for table in tables[2]])
         np.testing.assert_array_equal(sum(counts), sum(map(histogram, range(STREAMS))))
         self.assertEqual(len({tuple(count) for count in counts}), STREAMS)

@@ -221,6 +221,111 @@ class Tables(unittest.TestCase):
             self.assertTrue(all(map(same, tables, sandpile.replicas((9, 8), SEED, STREAMS, DROPS))))
 
 
+def measured(run):
+    """What two users want of a replica: of its drops, and of those that follow."""
+    sizes = np.bincount(run.table["size"], minlength=3)[:3]
+    blocks = [table["size"].sum() for table in run.blocks(100, 30)]
+    return run.stream, run.drops, sizes.tolist(), blocks, run.pile.tolist()
+
+
+def by_hand_measured(start, stream, **edge):
+    run = sandpile.Drive(start(stream), SEED, stream, **edge)
+    run.drop(DROPS)
+    return measured(run)
+
+
+def itself(run):
+    return run
+
+
+def fails_at_2(run):
+    if run.stream == 2:
+        raise KeyError("no such measure")
+    return run.drops
+
+
+class Each(unittest.TestCase):
+    def test_its_results_are_the_same_by_each_executor(self):
+        fork, spawn = map(multiprocessing.get_context, ("fork", "spawn"))
+        with ThreadPoolExecutor(2) as threads, ProcessPoolExecutor(2, fork) as forks, ProcessPoolExecutor(2, spawn) as spawns:
+            for name in ("a shape", "a function"):
+                start, hand = STARTS[name]
+                expected = [by_hand_measured(hand, stream) for stream in STREAMS]
+                for executor in (None, Backwards(), threads, forks, spawns):
+                    with self.subTest(start=name, executor=executor):
+                        self.assertEqual(list(sandpile.replicas(start, SEED, STREAMS, DROPS, executor, each=measured)), expected)
+
+    def test_it_may_return_the_run(self):
+        fork = multiprocessing.get_context("fork")
+        with ProcessPoolExecutor(2, fork) as forks:
+            for executor in (None, forks):
+                tables = sandpile.replicas((9, 8), SEED, STREAMS, DROPS)
+                runs = list(sandpile.replicas((9, 8), SEED, STREAMS, DROPS, executor, each=itself))
+                for run, table, stream in zip(runs, tables, STREAMS):
+                    self.assertEqual((run.stream, run.drops), (stream, DROPS))
+                    self.assertTrue(same(run.table["size"], table["size"]))
+                    expected = sandpile.Drive(own_start((9, 8), stream), SEED, stream)
+                    expected.drop(DROPS)
+                    self.assertTrue(same(run.drop(9), expected.drop(9)))
+
+    def test_no_drops_before_it(self):
+        self.assertEqual(list(sandpile.replicas((9, 8), SEED, range(3), 0, each=lambda run: len(run.table))), [0, 0, 0])
+
+    def test_an_error_names_the_stream(self):
+        fork = multiprocessing.get_context("fork")
+        with ProcessPoolExecutor(1, fork) as processes:
+            for executor in (None, processes):
+                results = sandpile.replicas((3, 3), 1, [0, 1, 2, 3], 5, executor, each=fails_at_2)
+                self.assertEqual([next(results), next(results)], [5, 5])
+                said = "^the replica of stream 2 failed: KeyError: 'no such measure'$"
+                with self.assertRaisesRegex(RuntimeError, said) as caught:
+                    next(results)
+                self.assertIsInstance(caught.exception.__cause__, KeyError)
+                self.assertRaises(StopIteration, next, results)
+            for cannot in (lambda run: 5, threading.local):  # to be pickled: the function, and its result
+                with self.assertRaisesRegex(RuntimeError, "^the replica of stream 0 failed: "):
+                    next(sandpile.replicas((3, 3), 1, [0], 5, processes, each=cannot))
+
+    def test_what_is_no_function(self):
+        for each in (5, "size", []):
+            self.assertRaisesRegex(TypeError, "^each must be a function of a Drive, not", sandpile.replicas, (3, 3), 1, [0], 5, each=each)
+
+    def test_progress_counts_replicas(self):
+        shown = io.StringIO()
+        with contextlib.redirect_stderr(shown), mock.patch.dict(sys.modules, {"tqdm": None, "tqdm.auto": None}):
+            list(sandpile.replicas((9, 8), SEED, STREAMS, 0, progress=True, each=measured))
+        self.assertRegex(shown.getvalue(), r"\r3 of 3 replicas\n$")
+
+    def test_it_ends_with_the_iterator(self):
+        def endless(run):
+            ends.append(run)
+            for _ in run.blocks(10**9 if run.stream else 1, 1):
+                pass
+            return run.stream
+
+        ends, before = [], set(threading.enumerate())
+        results = sandpile.replicas([[0, 0], [0, 0]], 1, itertools.count(), 5, each=endless)
+        self.assertEqual(next(results), 0)
+        self.assertTrue(soon(lambda: len(ends) > 1))
+        closing = threading.Thread(target=results.close)
+        closing.start()
+        closing.join(60)
+        self.assertFalse(closing.is_alive())
+        self.assertEqual(set(threading.enumerate()), before)
+
+    def test_tables_do_not_travel(self):
+        # A replica that was measured is all that is kept of it.
+        runs = []
+
+        def measure(run):
+            runs.append(weakref.ref(run.table))
+            return len(run.table)
+
+        results = sandpile.replicas((3, 3), 1, range(8), 1000, each=measure)
+        self.assertEqual(list(results), [1000] * 8)
+        self.assertTrue(soon(lambda: not any(run() is not None for run in runs)))
+
+
 class Processes(unittest.TestCase):
     @needs("mpiexec")
     @needs_module("mpi4py")
