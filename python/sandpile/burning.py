@@ -13,32 +13,33 @@ from typing import Any
 import numpy as np
 from numpy.typing import ArrayLike, NDArray
 
-from ._arrays import Heights, heights_and_edge, listed
+from ._arrays import Heights, heights_and_edge, listed, new_array
 from ._library import call
 from ._png import Pictured, ma
 from ._results import Result
+from ._stacks import enumerate_piles, naming
 
 
 @dataclass(frozen=True, eq=False, repr=False)
 class Burned(Result, Pictured):
-    """The result of burning.
+    """The result of burning a pile, or each pile of a stack.
 
     Attributes
     ----------
-    is_recurrent : bool
-        Whether all sites burn, that is, whether the pile is recurrent.
+    is_recurrent : bool or numpy.ndarray
+        Whether all sites burn, that is, whether the pile is recurrent; of a stack, shape (k,), bool.
     order : numpy.ndarray
         Site numbers, ``row * width + column``, in an order in which all sites burn; shape (sites,), int64. Empty if the
-        pile is not recurrent.
+        pile is not recurrent. Of a stack, shape (k, sites), and such a pile has -1 everywhere.
     forbidden : numpy.ndarray
-        Which sites are in the greatest forbidden set; shape (height, width), bool. All False if the pile is
-        recurrent.
+        Which sites are in the greatest forbidden set; shape (height, width), or (k, height, width) of a stack; bool. All
+        False if the pile is recurrent.
     time : numpy.ndarray
-        The step in which each site burns, from 1 on: in each step, all sites that can burn do; shape (height, width),
-        int64. Sites of the forbidden set have -1. Computed when it is first read.
+        The step in which each site burns, from 1 on: in each step, all sites that can burn do; the same shape, int64. Sites
+        of the forbidden set have -1. Computed when it is first read.
     """
 
-    is_recurrent: bool
+    is_recurrent: Any
     order: NDArray[np.int64]
     forbidden: NDArray[np.bool_]
     _heights: Heights = field(repr=False)
@@ -46,19 +47,25 @@ class Burned(Result, Pictured):
 
     @cached_property
     def time(self) -> NDArray[np.int64]:
-        return _times(self._heights, self._cylinder)
+        if self._heights.ndim == 2:
+            return _times(self._heights, self._cylinder)
+        times = np.empty_like(self._heights)
+        for time, heights in zip(times, self._heights):
+            time[:] = _times(heights, self._cylinder)
+        return times
 
     def _shown(self) -> Any:
         return ma.masked_less(self.time, 0)
 
 
 def burn(pile: ArrayLike, cylinder: bool | None = None) -> Burned:
-    """Burns a stable pile from its edge. The sites that do not burn are the greatest forbidden set.
+    """Burns a stable pile, or each pile of a stack, from its edge. The sites that do not burn are the greatest forbidden set.
 
     Parameters
     ----------
     pile : array_like of int
-        Grains on each site, shape (height, width), each from 0 to 3. Not modified.
+        Grains on each site, shape (height, width), each from 0 to 3. Not modified. An array of shape (k, height, width), or a
+        list of piles of one shape, is a stack, which may be empty.
     cylinder : bool, optional
         Whether the first and the last column are neighbours. By default as in `pile` if that has a `cylinder`, else False.
 
@@ -67,7 +74,7 @@ def burn(pile: ArrayLike, cylinder: bool | None = None) -> Burned:
     Fault
         Side (1), Narrow (24), TooManyGrains (3), Unstable (7), Memory (4), or Shapes (9) if `pile` has the other edge.
     ValueError
-        If a height is below 0, or `pile` is not two-dimensional; the latter is also a `TypeError`.
+        If a height is below 0, or `pile` has neither two nor three dimensions; the latter is also a `TypeError`.
     TypeError
         If the heights are not integers.
 
@@ -94,8 +101,11 @@ def burn(pile: ArrayLike, cylinder: bool | None = None) -> Burned:
     array([[ True,  True, False]])
     >>> sandpile.burn([[0, 0, 3]]).time
     array([[-1, -1,  1]])
+    >>> sandpile.burn([[[0, 0, 3]], [[3, 3, 3]]]).is_recurrent
+    array([False,  True])
     """
-    return burned(*heights_and_edge(pile, cylinder))
+    heights, edge = heights_and_edge(pile, cylinder, may_be_stack=True)
+    return burned(heights, edge) if heights.ndim == 2 else burned_stack(heights, edge)
 
 
 def burned(heights: Heights, cylinder: bool) -> Burned:
@@ -109,6 +119,20 @@ def burned(heights: Heights, cylinder: bool) -> Burned:
         return Burned(True, sites, forbidden, heights, cylinder)
     forbidden.flat[sites] = True
     return Burned(False, np.empty(0, np.int64), forbidden, heights, cylinder)
+
+
+def burned_stack(stack: Heights, cylinder: bool) -> Burned:
+    """What `burn` returns, for a stack that is checked."""
+    count, height, width = stack.shape
+    is_recurrent, forbidden = np.zeros(count, bool), np.zeros(stack.shape, bool)
+    order = new_array((count, height * width), np.int64, f"the orders of {count} piles")
+    order.fill(-1)
+    for number, heights in enumerate_piles(stack, cylinder):
+        with naming(number):
+            one = burned(heights, cylinder)
+        is_recurrent[number], forbidden[number] = one.is_recurrent, one.forbidden
+        order[number, : one.order.size] = one.order
+    return Burned(is_recurrent, order, forbidden, stack, cylinder)
 
 
 def _times(heights: Heights, cylinder: bool) -> NDArray[np.int64]:

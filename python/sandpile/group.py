@@ -1,7 +1,7 @@
 """The sandpile group (Dhar 1990): recurrent piles, added by settling their sum.
 
 A sum settles one pile, of heights up to 6, and an inverse two. The n-th multiple is made by doubling. The space is proportional
-to the sites.
+to the sites. A stack of elements is computed pile by pile.
 """
 
 from __future__ import annotations
@@ -13,7 +13,8 @@ from numpy.typing import ArrayLike, NDArray
 
 from ._arrays import HasPile, Heights, checked_edge, heights_and_edge, index_of, shape_of, site_at
 from ._library import call
-from .burning import burned
+from ._stacks import enumerate_piles, naming
+from .burning import burned, burned_stack
 from .faults import Fault
 from .settling import settle
 
@@ -28,7 +29,7 @@ def _refuse_array(other: object) -> None:
 
 
 class Recurrent(HasPile):
-    """A recurrent pile, as an element of the group of its grid.
+    """A recurrent pile, as an element of the group of its grid; or a stack of them, with operations pile by pile.
 
     ``a + b``, ``a - b``, ``-a``, ``n * a`` for any integer ``n``, and ``a == b`` are those of the group; `sum` adds several
     elements. They are hashable, and have no order. ``numpy.asarray(a)`` and ``a.pile`` are the heights, and
@@ -37,10 +38,12 @@ class Recurrent(HasPile):
     functions: they take a list of elements for the stack of its heights, so ``numpy.mean([a, b], axis=0)`` is the mean
     pile, and ``numpy.sum([a, b])`` is the number of grains, not the sum in the group.
 
+    An element is added to each of a stack. ``==`` of two stacks is one bool, and ``a.pile[2]`` is the third pile of a stack.
+
     Parameters
     ----------
     pile : array_like of int
-        A recurrent pile, shape (height, width). `recurrent` takes any pile.
+        A recurrent pile, shape (height, width), or a stack of them, shape (k, height, width). `recurrent` takes any pile.
     cylinder : bool, optional
         Whether the first and the last column are neighbours. By default as in `pile` if that has a `cylinder`, else False.
 
@@ -48,9 +51,9 @@ class Recurrent(HasPile):
     ------
     Fault
         Side (1), Narrow (24), TooManyGrains (3), Unstable (7), NotRecurrent (8), Memory (4), or Shapes (9) if `pile` has
-        the other edge. Adding elements of different grids raises Shapes, too.
+        the other edge. Adding elements of different grids raises Shapes, too, and so do stacks of different lengths.
     ValueError
-        If a height is below 0, or `pile` is not two-dimensional; the latter is also a `TypeError`.
+        If a height is below 0, or `pile` has neither two nor three dimensions; the latter is also a `TypeError`.
     TypeError
         If the heights are not integers.
 
@@ -87,8 +90,11 @@ class Recurrent(HasPile):
     __array_ufunc__ = None
 
     def __init__(self, pile: ArrayLike, cylinder: bool | None = None) -> None:
-        heights, edge = heights_and_edge(pile, cylinder)
-        if not burned(heights, edge).is_recurrent:
+        heights, edge = heights_and_edge(pile, cylinder, may_be_stack=True)
+        if heights.ndim == 3:
+            for number in np.flatnonzero(~burned_stack(heights, edge).is_recurrent)[:1]:
+                raise Fault(8, f"pile {number} of the stack is not recurrent: some of its sites form a forbidden set")
+        elif not burned(heights, edge).is_recurrent:
             raise Fault(8)
         self._keep(heights, edge)
 
@@ -105,7 +111,7 @@ class Recurrent(HasPile):
 
     @property
     def pile(self) -> Heights:
-        """The heights, from 0 to 3; shape (height, width), int64, read-only."""
+        """The heights, from 0 to 3; shape (height, width), or (k, height, width) of a stack; int64, read-only."""
         return self._pile
 
     @property
@@ -116,7 +122,7 @@ class Recurrent(HasPile):
     @property
     def shape(self) -> tuple[int, int]:
         """The height and the width of the grid."""
-        height, width = self._pile.shape
+        height, width = self._pile.shape[-2:]
         return height, width
 
     def act(
@@ -159,17 +165,32 @@ class Recurrent(HasPile):
         True
         """
         heights = self._pile.copy()
-        heights.flat[site_at(site, row, column, self.shape)] += 1
+        height, width = self.shape
+        heights.reshape(-1, height * width)[:, site_at(site, row, column, self.shape)] += 1
         return Recurrent._known(settle(heights, self._cylinder).pile, self._cylinder)
 
     def _made(self, name: str, *arguments: Any) -> Recurrent:
         """The element that an export of the library makes from this one."""
         heights = self._pile.copy()
-        call(name, heights.shape, self._cylinder, heights, *arguments)
+        for one in _piles(heights):
+            call(name, self.shape, self._cylinder, one, *arguments)
         return Recurrent._known(heights, self._cylinder)
 
     def _is_beside(self, other: Recurrent) -> bool:
         return self.shape == other.shape and self._cylinder == other._cylinder
+
+    def _sum(self, other: Recurrent) -> Recurrent:
+        """The sum of two elements, or of the piles of a stack and those of another one, or one element."""
+        if self._pile.ndim == other._pile.ndim == 2:
+            return self._made("add", other._pile)
+        counts = [len(_piles(a._pile)) for a in (self, other) if a._pile.ndim == 3]
+        if min(counts) != max(counts):
+            raise Fault(9, f"one stack has {counts[0]} piles, but the other {counts[1]}")
+        shape = (*counts[:1], *self.shape)
+        heights, others = (np.array(np.broadcast_to(a._pile, shape), order="C") for a in (self, other))
+        for one, another in zip(heights, others):
+            call("add", self.shape, self._cylinder, one, another)
+        return Recurrent._known(heights, self._cylinder)
 
     if not TYPE_CHECKING:  # so that a type checker refuses these operators, too
 
@@ -192,7 +213,7 @@ class Recurrent(HasPile):
             return NotImplemented
         if not self._is_beside(other):
             raise Fault(9)
-        return self._made("add", other._pile)
+        return self._sum(other)
 
     def __radd__(self, other: int) -> Recurrent:
         """``0 + a``, with which `sum` begins."""
@@ -224,13 +245,15 @@ class Recurrent(HasPile):
         on, as many at once as a pile has room for: the pile so far is doubled for each, and the copies are added."""
         if n < 1 << 64:
             return self._made("multiple", n)
-        most = _GRAIN_BITS - 1 - (3 * self._pile.size).bit_length()
+        height, width = self.shape
+        most = _GRAIN_BITS - 1 - (3 * height * width).bit_length()
         bits = f"{n:b}"
         bits = bits.zfill(-(-len(bits) // most) * most)
         heights = np.zeros_like(self._pile)
         for at in range(0, len(bits), most):
             heights = (heights << most) + self._pile * int(bits[at : at + most], 2)
-            call("recurrent", heights.shape, self._cylinder, heights)
+            for one in _piles(heights):
+                call("recurrent", self.shape, self._cylinder, one)
         return Recurrent._known(heights, self._cylinder)
 
     __rmul__ = __mul__
@@ -246,7 +269,7 @@ class Recurrent(HasPile):
             return self._pile == other
         if not isinstance(other, Recurrent):
             return NotImplemented
-        return self._is_beside(other) and np.array_equal(self._pile, other._pile)
+        return self._cylinder == other._cylinder and np.array_equal(self._pile, other._pile)
 
     @overload
     def __ne__(self, other: NDArray[Any]) -> NDArray[np.bool_]: ...  # type: ignore
@@ -258,7 +281,7 @@ class Recurrent(HasPile):
         return self._pile != other if isinstance(other, np.ndarray) else not self == other
 
     def __hash__(self) -> int:
-        return hash((self.shape, self._cylinder, self._pile.tobytes()))
+        return hash((self._pile.shape, self._cylinder, self._pile.tobytes()))
 
     def __getitem__(self, key: Any) -> Any:
         return self._pile[key]
@@ -269,6 +292,11 @@ class Recurrent(HasPile):
     def __repr__(self) -> str:
         edge = ", cylinder=True" if self._cylinder else ""
         return f"Recurrent({np.array2string(self._pile, separator=', ', prefix='Recurrent(')}{edge})"
+
+
+def _piles(heights: Heights) -> Sequence[Heights]:
+    """The piles of a stack, or the only one."""
+    return [*heights] if heights.ndim == 3 else [heights]
 
 
 def identity(shape: Sequence[SupportsIndex], cylinder: bool = False) -> Recurrent:
@@ -315,12 +343,13 @@ def identity(shape: Sequence[SupportsIndex], cylinder: bool = False) -> Recurren
 
 
 def recurrent(pile: ArrayLike, cylinder: bool | None = None) -> Recurrent:
-    """The recurrent pile equivalent to a pile: they differ by topplings, forward or backward.
+    """The recurrent pile equivalent to a pile, or to each pile of a stack: they differ by topplings, forward or backward.
 
     Parameters
     ----------
     pile : array_like of int
-        Grains on each site, shape (height, width), sides from 1 to 256, any integer type. Not modified.
+        Grains on each site, shape (height, width), sides from 1 to 256, any integer type. Not modified. An array of shape
+        (k, height, width), or a list of piles of one shape, is a stack, which may be empty.
     cylinder : bool, optional
         Whether the first and the last column are neighbours. By default as in `pile` if that has a `cylinder`, else False.
 
@@ -329,7 +358,7 @@ def recurrent(pile: ArrayLike, cylinder: bool | None = None) -> Recurrent:
     Fault
         Side (1), Narrow (24), TooManyGrains (3), Memory (4), or Shapes (9) if `pile` has the other edge.
     ValueError
-        If a height is below 0, or `pile` is not two-dimensional; the latter is also a `TypeError`.
+        If a height is below 0, or `pile` has neither two nor three dimensions; the latter is also a `TypeError`.
     TypeError
         If the heights are not integers.
 
@@ -355,7 +384,15 @@ def recurrent(pile: ArrayLike, cylinder: bool | None = None) -> Recurrent:
     >>> a = sandpile.recurrent([[0, 0, 0], [0, 0, 1]])
     >>> a + sandpile.recurrent([[9, 0, 0], [0, 0, 0]]) == sandpile.recurrent([[9, 0, 0], [0, 0, 1]])
     True
+    >>> (a + sandpile.recurrent([[[0, 0, 0], [0, 0, 0]], [[9, 0, 0], [0, 0, 0]]])).pile[1]
+    array([[1, 0, 3],
+           [1, 3, 3]])
     """
-    heights, edge = heights_and_edge(pile, cylinder)
-    call("recurrent", heights.shape, edge, heights)
+    heights, edge = heights_and_edge(pile, cylinder, may_be_stack=True)
+    if heights.ndim == 2:
+        call("recurrent", heights.shape, edge, heights)
+        return Recurrent._known(heights, edge)
+    for number, one in enumerate_piles(heights, edge):
+        with naming(number):
+            call("recurrent", one.shape, edge, one)
     return Recurrent._known(heights, edge)

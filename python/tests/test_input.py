@@ -40,6 +40,7 @@ WRONG_SHAPES = {
     "four dimensions": np.zeros((2, 2, 2, 2), int),
     "an empty list": [],
 }
+TAKE_STACKS = {"settle", "burn", "recurrent", "Recurrent"}
 RAGGED = {
     "rows": [[3, 2], [3]],
     "a site": [[3, 2], [3, [2]]],
@@ -142,7 +143,7 @@ class Refused(unittest.TestCase):
     def test_piles_of_another_number_of_dimensions(self):
         for call in TAKES_PILE:
             for name, pile in WRONG_SHAPES.items():
-                if (call, name) == ("settle", "three dimensions"):  # a stack of piles
+                if call in TAKE_STACKS and name == "three dimensions":
                     continue
                 for kind in (ValueError, TypeError):
                     with self.subTest(call=call, pile=name, kind=kind):

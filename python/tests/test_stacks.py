@@ -1,4 +1,4 @@
-"""Stacks of piles, which are settled as they are one by one."""
+"""Stacks of piles: they are settled and burned, and are elements of the group, as their piles are one by one."""
 
 import collections
 import unittest
@@ -120,7 +120,7 @@ class Stacks(unittest.TestCase):
 
     def test_other_calls_take_no_stack(self):
         stack = stack_of(2, 3, 4)
-        for call in (sandpile.burn, sandpile.recurrent, sandpile.Recurrent, sandpile.Drive, sandpile.lab):
+        for call in (sandpile.Drive, sandpile.lab):
             for kind in (ValueError, TypeError):
                 for pile in (stack, stack[:0], sandpile.settle(stack)):
                     self.assertRaisesRegex(kind, r"shape \(height, width\), but this array has shape \(\d, 3, 4\)", call, pile)
@@ -143,3 +143,80 @@ class Stacks(unittest.TestCase):
             self.assertRaises(KeyboardInterrupt, sandpile.settle, np.zeros((9, 256, 256), int))
         self.assertEqual(len(calls), 1)
         self.assertEqual(calls[0][4], 256 * 256)
+
+
+class Burning(unittest.TestCase):
+    def test_as_one_by_one(self):
+        for cylinder in (False, True):
+            piles = sandpile.recurrent(stack_of(6, 3, 4), cylinder).pile.copy()
+            piles[[1, 4]] //= 2
+            found, one_by_one = sandpile.burn(piles, cylinder), [sandpile.burn(pile, cylinder) for pile in piles]
+            self.assertTrue(same(found.is_recurrent, np.array([one.is_recurrent for one in one_by_one])))
+            self.assertEqual({*found.is_recurrent}, {False, True})
+            self.assertTrue(same(found.forbidden, np.array([one.forbidden for one in one_by_one])))
+            self.assertTrue(same(found.time, np.array([one.time for one in one_by_one])))
+            orders = [one.order if one.is_recurrent else np.full(12, -1) for one in one_by_one]
+            self.assertTrue(same(found.order, np.array(orders)))
+
+    def test_faults(self):
+        stack = stack_of(4, 3, 4, most=4)
+        stack[2, 1, 1] = 4
+        self.assertRaisesRegex(sandpile.Fault, "fault 7 Unstable: pile 2 of the stack: a site has more than 3", sandpile.burn, stack)
+        empty = np.zeros((0, 3, 2), int)
+        self.assertRaisesRegex(sandpile.Fault, "fault 24", sandpile.burn, empty, cylinder=True)
+        found = sandpile.burn(empty)
+        self.assertEqual([part.shape for part in (found.is_recurrent, found.order, found.forbidden, found.time)],
+                         [(0,), (0, 6), (0, 3, 2), (0, 3, 2)])
+
+
+class Elements(unittest.TestCase):
+    def test_as_one_by_one(self):
+        for cylinder in (False, True):
+            stacks = stack_of(5, 3, 4, most=60), stack_of(5, 3, 4, most=60, seed=2)
+            a, b = (sandpile.recurrent(stack, cylinder) for stack in stacks)
+            ones, others = ([sandpile.recurrent(pile, cylinder) for pile in stack] for stack in stacks)
+            for found, each in (
+                (a, lambda a, _: a),
+                (a + b, lambda a, b: a + b),
+                (a - b, lambda a, b: a - b),
+                (-a, lambda a, _: -a),
+                (-3 * a, lambda a, _: -3 * a),
+                (10**40 * a, lambda a, _: 10**40 * a),
+                (a.act(7), lambda a, _: a.act(7)),
+                (a.act(row=2, column=1), lambda a, _: a.act(9)),
+                (a + others[0], lambda a, _: a + others[0]),
+                (others[0] - a, lambda a, _: others[0] - a),
+            ):
+                expected = [each(one, other) for one, other in zip(ones, others)]
+                self.assertTrue(same(found.pile, np.array([one.pile for one in expected])))
+                self.assertEqual((found.shape, found.cylinder, found.pile.flags.writeable), ((3, 4), cylinder, False))
+                self.assertEqual(found, sandpile.Recurrent(expected))
+            self.assertEqual((a == b, a == sandpile.Recurrent(ones), a != b), (False, True, True))
+            self.assertEqual(hash(a), hash(sandpile.Recurrent(ones)))
+
+    def test_one_is_not_a_stack_of_one(self):
+        one, stack = sandpile.recurrent([[7, 1]]), sandpile.recurrent([[[7, 1]]])
+        self.assertNotEqual(one, stack)
+        self.assertNotEqual(hash(one), hash(stack))
+        self.assertEqual((one + stack).pile.shape, (1, 1, 2))
+
+    def test_faults(self):
+        stack = stack_of(5, 3, 4)
+        a = sandpile.recurrent(stack)
+        said = "fault 9 Shapes: one stack has 5 piles, but the other 4"
+        self.assertRaisesRegex(sandpile.Fault, said, lambda: a + sandpile.recurrent(stack[:4]))
+        for other in (sandpile.identity((4, 3)), sandpile.recurrent(stack, cylinder=True)):
+            self.assertRaisesRegex(sandpile.Fault, "fault 9 Shapes: the two piles differ", lambda: a + other)
+        piles = a.pile.copy()
+        piles[3] = 0
+        said = "fault 8 NotRecurrent: pile 3 of the stack is not recurrent"
+        self.assertRaisesRegex(sandpile.Fault, said, sandpile.Recurrent, piles)
+        stack[2, 0, 0] = LIMIT
+        self.assertRaisesRegex(sandpile.Fault, "fault 3 TooManyGrains: pile 2 of the stack: ", sandpile.recurrent, stack)
+        for call in (sandpile.recurrent, sandpile.Recurrent):
+            self.assertRaisesRegex(sandpile.Fault, "fault 24", call, np.zeros((0, 3, 2), int), cylinder=True)
+
+    def test_no_pile(self):
+        a = sandpile.recurrent(np.zeros((0, 3, 4), int))
+        for found in (a, a + a, -a, 10**40 * a, a.act(0), a + sandpile.identity((3, 4))):
+            self.assertEqual(found.pile.shape, (0, 3, 4))
