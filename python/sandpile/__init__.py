@@ -18,6 +18,7 @@ run in parallel.
 `burn`                                  whether a pile is recurrent
 `recurrent`, `identity`, `Recurrent`    the sandpile group
 `random_recurrent`                      a random recurrent pile, each as likely as any other
+`Recurrent.tree`                        the spanning tree of a recurrent pile
 `lab`                                   a seeded run on many threads, by the program
 `show`                                  a picture
 `animate`                               avalanches, one after another
@@ -42,10 +43,11 @@ from .replicating import REPLICA, Replicas, replicas
 from .settling import Settled, settle
 from .sharing import Part, Record, SharedPile
 from .stationary import random_recurrent
+from .trees import Tree
 from .version import VERSION
 
 __version__ = VERSION
 __all__ = [
     "AVALANCHE", "EPOCH", "REPLICA", "Burned", "Drive", "Fault", "Part", "Record", "Recurrent", "Replicas", "Run", "Settled",
-    "SharedPile", "animate", "burn", "identity", "lab", "random_recurrent", "recurrent", "replicas", "settle", "show",
+    "SharedPile", "Tree", "animate", "burn", "identity", "lab", "random_recurrent", "recurrent", "replicas", "settle", "show",
 ]

@@ -16,7 +16,7 @@ from .faults import Fault, ShapeError
 Heights = NDArray[np.int64]
 
 _MOST_SIDE = 256
-_TOO_MANY_GRAINS, _MEMORY, _SHAPES = 3, 4, 9
+_TOO_MANY_GRAINS, _MEMORY, _SHAPES, _NOT_TREE = 3, 4, 9, 28
 # NumPy before 1.24 makes an array of lists of them, with a warning.
 _ALLOWS_RAGGED = tuple(map(int, np.__version__.split(".")[:2])) < (1, 24)
 
@@ -97,7 +97,7 @@ def heights_and_edge(pile: ArrayLike, cylinder: bool | None, may_be_stack: bool 
     if edges and is_list:  # NumPy before 2 warns of objects in a list
         pile = [one.pile if isinstance(one, HasPile) else one for one in piles]
     try:
-        return heights_of(pile, may_be_stack), _edge_of(edges, cylinder)
+        return heights_of(pile, may_be_stack), edge_of(edges, cylinder)
     except MemoryError:
         raise Fault(_MEMORY, "not enough memory for a copy of the heights") from None
 
@@ -108,7 +108,7 @@ def _listed(values: Any) -> Any:
     return list(values) if is_other else values
 
 
-def _edge_of(edges: set[bool], cylinder: bool | None) -> bool:
+def edge_of(edges: set[bool], cylinder: bool | None) -> bool:
     """The only one of the edges that piles have, which must not contradict `cylinder`."""
     if len(edges) > 1:
         raise Fault(_SHAPES, "the piles have different edges")
@@ -172,6 +172,18 @@ def shape_of(shape: Sequence[SupportsIndex]) -> tuple[int, int]:
         raise kind(f"a shape must be two integers, (height, width), not {shape!r}") from None
     check_sides((height, width))
     return height, width
+
+
+def directions_of(directions: ArrayLike) -> NDArray[np.uint8]:
+    """A new contiguous array of directions, each from 0 to 3."""
+    array = _integers(_listed(directions), "directions")
+    if array.ndim != 2:
+        raise ShapeError(f"the directions of a tree must have shape (height, width), but this array has shape {array.shape}")
+    check_sides(array.shape)
+    wrong = (array < 0) | (array > 3)
+    if wrong.any():
+        raise Fault(_NOT_TREE, f"directions must be from 0 to 3, but the one in {_first(array, wrong)}")
+    return np.array(array, dtype=np.uint8, order="C")
 
 
 def sites_of(sites: ArrayLike, count: int) -> NDArray[np.int64]:

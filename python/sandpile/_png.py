@@ -63,7 +63,7 @@ def picture(values: Any) -> bytes | None:
     if not is_plain(values):
         colours, sites = graded(), np.minimum(values * LEVELS // values.max(), LEVELS - 1)
     palette = np.concatenate([colours, rgb(RED)])
-    scale = min(PIXELS // max(values.shape), _MOST_OF_A_SITE)
+    scale = max(1, min(PIXELS // max(values.shape), _MOST_OF_A_SITE))
     return png(ma.filled(sites, len(colours)).astype(np.uint8), palette, scale)
 
 

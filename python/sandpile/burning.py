@@ -13,7 +13,7 @@ from typing import Any
 import numpy as np
 from numpy.typing import ArrayLike, NDArray
 
-from ._arrays import Heights, heights_and_edge, listed, new_array
+from ._arrays import Heights, heights_and_edge, new_array
 from ._library import call
 from ._png import Pictured, ma
 from ._results import Result
@@ -136,38 +136,7 @@ def burned_stack(stack: Heights, cylinder: bool) -> Burned:
 
 
 def _times(heights: Heights, cylinder: bool) -> NDArray[np.int64]:
-    """In which step each site burns, from 1 on, or -1. Each site is visited once, however many steps there are."""
-    neighbours = _neighbours(heights.shape, cylinder)
-    awaited = np.count_nonzero(neighbours < heights.size, axis=0) - heights.ravel()
-    front = listed(np.flatnonzero(awaited <= 0))
-    sides, left = listed(neighbours), [*listed(awaited), 0]
-    times, now = np.full(heights.size, -1, np.int64), 0
-    while front:
-        now += 1
-        times[front] = now
-        front = _reached(front, sides, left)
-    return times.reshape(heights.shape)
-
-
-def _neighbours(shape: tuple[int, ...], cylinder: bool) -> NDArray[np.int64]:
-    """The neighbours of each site in the north, west, east and south; shape (4, sites). Beyond the edge is the number after
-    that of the last site."""
-    sites = np.arange(shape[0] * shape[1], dtype=np.int64).reshape(shape)
-    framed = np.pad(sites, 1, constant_values=sites.size)
-    if cylinder:
-        framed[1:-1, 0], framed[1:-1, -1] = sites[:, -1], sites[:, 0]
-    sides = framed[:-2, 1:-1], framed[1:-1, :-2], framed[1:-1, 2:], framed[2:, 1:-1]
-    return np.array([side.ravel() for side in sides])
-
-
-def _reached(front: list[int], sides: list[list[int]], left: list[int]) -> list[int]:
-    """The sites that can burn once those of `front` have burned. `left` has how many neighbours of each must still burn
-    before. It falls by one at a time, so each site is reached at most once."""
-    north, west, east, south = sides
-    reached = []
-    for site in front:
-        for neighbour in (north[site], west[site], east[site], south[site]):
-            left[neighbour] -= 1
-            if not left[neighbour]:
-                reached.append(neighbour)
-    return reached
+    """In which step each site burns, from 1 on, or -1."""
+    times = np.empty(heights.shape, np.uint32)
+    call("burn_times", heights.shape, cylinder, heights, times)
+    return np.where(times, times.astype(np.int64), -1)

@@ -11,12 +11,13 @@ from typing import TYPE_CHECKING, Any, Sequence, SupportsIndex, overload
 import numpy as np
 from numpy.typing import ArrayLike, NDArray
 
-from ._arrays import HasPile, Heights, checked_edge, heights_and_edge, index_of, shape_of, site_at
+from ._arrays import HasPile, Heights, checked_edge, directions_of, edge_of, heights_and_edge, index_of, shape_of, site_at
 from ._library import call
 from ._stacks import enumerate_piles, naming
 from .burning import burned, burned_stack
-from .faults import Fault
+from .faults import Fault, ShapeError
 from .settling import settle
+from .trees import Tree
 
 # A pile has fewer grains than 2 to this.
 _GRAIN_BITS = 40
@@ -168,6 +169,80 @@ class Recurrent(HasPile):
         height, width = self.shape
         heights.reshape(-1, height * width)[:, site_at(site, row, column, self.shape)] += 1
         return Recurrent._known(settle(heights, self._cylinder).pile, self._cylinder)
+
+    def tree(self) -> Tree:
+        """The spanning tree of this element, by the burning bijection [1]_.
+
+        The edge of a site leads to a neighbour that burns one step earlier, or to the sink. The height of the site tells to
+        which of these: if k of its edges lead to what burns earlier, it is the first in the order north, west, east, south if
+        the height is 4 - k, and one further for each grain more.
+
+        Returns
+        -------
+        Tree
+            The tree. ``Recurrent.from_tree`` returns the element again.
+
+        Raises
+        ------
+        Fault
+            Memory (4).
+        ValueError
+            If this is a stack.
+
+        See Also
+        --------
+        burn : ``burn(a).time`` is how many edges lead from each site to the sink
+
+        References
+        ----------
+        .. [1] S. N. Majumdar and D. Dhar, "Equivalence between the Abelian sandpile model and the q->0 limit of the Potts
+           model", Physica A 185 (1992) 129-145.
+
+        Examples
+        --------
+        >>> import sandpile
+        >>> sandpile.Recurrent([[0, 1, 3]]).tree().directions
+        array([[2, 2, 3]])
+        """
+        if self._pile.ndim != 2:
+            raise ShapeError("a tree is that of a single element, but this is a stack")
+        directions = np.empty(self.shape, np.uint8)
+        call("tree", self.shape, self._cylinder, self._pile, directions)
+        return Tree(directions.astype(np.int64), self._cylinder)
+
+    @classmethod
+    def from_tree(cls, directions: ArrayLike | Tree, cylinder: bool | None = None) -> Recurrent:
+        """The element of a spanning tree: `tree` of the element is the tree again.
+
+        Parameters
+        ----------
+        directions : Tree, or array_like of int
+            The direction of the edge of each site towards the sink, shape (height, width): 0 north, 1 west, 2 east, 3 south. An edge
+            that leads out of the grid leads to the sink.
+        cylinder : bool, optional
+            Whether the first and the last column are neighbours. By default as in `directions` if that is a tree, else False.
+
+        Raises
+        ------
+        Fault
+            Side (1), Narrow (24), NotTree (28) if a direction is not from 0 to 3 or some edges form a cycle, Memory (4), or
+            Shapes (9) if the tree has the other edge.
+        ValueError
+            If `directions` is not two-dimensional; this is also a `TypeError`.
+        TypeError
+            If the directions are not integers.
+
+        Examples
+        --------
+        >>> import sandpile
+        >>> sandpile.Recurrent.from_tree([[2, 2, 3]])
+        Recurrent([[0, 1, 3]])
+        """
+        edges = {directions.cylinder} if isinstance(directions, Tree) else set()
+        ways = directions_of(directions.directions if isinstance(directions, Tree) else directions)
+        edge, heights = edge_of(edges, cylinder), np.empty(ways.shape, np.int64)
+        call("of_tree", ways.shape, edge, ways, heights)
+        return cls._known(heights, edge)
 
     def _made(self, name: str, *arguments: Any) -> Recurrent:
         """The element that an export of the library makes from this one."""

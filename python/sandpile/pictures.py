@@ -31,15 +31,16 @@ def show(pile: ArrayLike | Pictured, ax: Axes) -> Axes: ...
 
 
 def show(pile: ArrayLike | Pictured, ax: Axes | None = None) -> Axes:
-    """Draws a pile, an odometer, a mask or the times of burning, and returns the axes.
+    """Draws a pile, an odometer, a mask, the times of burning or a tree, and returns the axes.
 
     Heights from 0 to 3 have one colour each. If there are other values, colours go from 0 to the greatest value, or from
     the least one if that is negative, and a colour bar shows them. Sites that are True in a mask are red, and so are those
-    that are masked or not a number, and sites of a `Burned` that never burn.
+    that are masked or not a number, and sites of a `Burned` that never burn. A tree is drawn as a maze, with a light square for each
+    site and each edge.
 
     Parameters
     ----------
-    pile : array_like of numbers or bool, Recurrent, Settled, Drive, Run or Burned
+    pile : array_like of numbers or bool, Recurrent, Settled, Drive, Run, Burned or Tree
         What to draw, shape (height, width).
     ax : matplotlib.axes.Axes, optional
         Where to draw; by default a new figure of about 512 pixels.

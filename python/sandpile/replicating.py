@@ -82,7 +82,8 @@ class _Plan:
             start = start(stream)
         elif isinstance(start, tuple):
             seed = np.random.SeedSequence(self.seed, spawn_key=(stream,))
-            start = drawn(cast(Tuple[int, int], start), seed, bool(self.cylinder), go_on)
+            start = drawn(cast(Tuple[int, int], start), seed, bool(self.cylinder))
+        go_on()
         return Drive(start, self.seed, stream, self.cylinder)
 
 

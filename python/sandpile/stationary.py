@@ -1,35 +1,19 @@
-"""Random recurrent piles, each as likely as any other. That is the stationary law of a driven pile (Dhar 1990).
+"""Random recurrent piles, each exactly as likely as any other. That is the stationary law of a driven pile (Dhar 1990).
 
-Draw the heights of n sites independently and uniformly from 0 to M - 1, and take the element of the group to which this
-pile belongs. The result is the sum of two such elements. Its law is almost uniform, for this reason:
-
-The group is Z^n / D Z^n, where D is the toppling matrix. Its characters are chi(h) = exp(2 pi i t.h), where t is in
-[-1/2, 1/2)^n and D t is an integer vector. For the heights h of one pile,
-
-    |E chi(h)| = prod_j |sin(pi M t_j) / (M sin(pi t_j))| <= prod_j min(1, 1 / (2 M |t_j|)).
-
-Two different characters differ, modulo 1, by at least 1/8 at some site. Otherwise their difference d has
-|(D d)_i| < 4/8 + 4/8 = 1 at each site. These are integers, so D d = 0, and d = 0, since D is invertible. Cut the circle
-of each t_j into 8 arcs of length 1/8, with centres at the multiples of 1/8. If an arc is chosen for each site, at most
-one character is in all of them. |t_j| is at least 1/16, 3/16 and 5/16 in two arcs each, and at least 7/16 in one. The
-sum of two independent elements has E chi squared, so summed over all characters except the trivial one
-
-    sum |E chi|^4 <= (1 + (8/M)^4 (2 (1 + 1/3^4 + 1/5^4) + 1/7^4))^n - 1 < (1 + 8308/M^4)^n - 1.
-
-The distance from the uniform law, in total variation, is at most half the root of that (the upper bound lemma, Diaconis
-1988), or about 46 sqrt(n) / M^2. M is the greatest power of two such that n M is at most 2^40, so neither pile is over
-the limit of grains. Then the distance is below 5e-11 on each grid.
+The library draws a spanning tree, each as likely as any other, by the walks of Wilson (1996): from each site that is not yet in
+the tree, a walk with random steps goes on until it meets the tree, and without its loops it joins the tree. The pile is that of the
+tree, by the burning bijection (Majumdar and Dhar 1992). The steps are two bits each of the 32-bit words of ChaCha8.
 """
 
 from __future__ import annotations
 
-from typing import Any, Callable, Sequence, SupportsIndex
+from typing import Any, Sequence, SupportsIndex
 
 import numpy as np
 
 from ._arrays import checked_edge, index_of, shape_of
-from .group import _GRAIN_BITS, Recurrent, recurrent
-from .settling import settle
+from ._library import call
+from .group import Recurrent
 
 
 def random_recurrent(
@@ -39,15 +23,14 @@ def random_recurrent(
 ) -> Recurrent:
     """A random recurrent pile, each as likely as any other. A run from it is stationary [1]_, and needs no burn-in.
 
-    Its law differs from the uniform one by less than 5e-11 in total variation; the module `sandpile.stationary` says why.
-
     Parameters
     ----------
     shape : tuple of int
         The height and the width of the grid, each from 1 to 256.
     seed : None, int, sequence of int, or numpy.random.SeedSequence
-        What `numpy.random.PCG64` takes: integers from 0 on, of any length. The pile of a seed is the same with each version
-        of NumPy. Without a seed it is a new one.
+        What `numpy.random.SeedSequence` takes: integers from 0 on, of any length. The pile of a seed is the same with each
+        version of NumPy, and has nothing to do with the sites at which a `Drive` of that seed drops grains. Without a seed it
+        is a new one.
     cylinder : bool
         Whether the first and the last column are neighbours.
 
@@ -63,11 +46,22 @@ def random_recurrent(
     See Also
     --------
     recurrent : the recurrent pile that is equivalent to a given one
+    Recurrent.tree : the spanning tree of a recurrent pile
+
+    Notes
+    -----
+    The pile is that of a random spanning tree [2]_ by Wilson's algorithm [3]_. The walks that make the tree end almost surely; one
+    of more than 2**40 steps, which nobody will meet, is ended by steps to the north. In C,
+    ``sandpile_random`` makes the same pile of the two words ``numpy.random.SeedSequence(seed).generate_state(2, numpy.uint64)``.
 
     References
     ----------
     .. [1] D. Dhar, "Self-organized critical state of sandpile automaton models", Physical Review Letters 64 (1990)
        1613-1616.
+    .. [2] S. N. Majumdar and D. Dhar, "Equivalence between the Abelian sandpile model and the q->0 limit of the Potts
+       model", Physica A 185 (1992) 129-145.
+    .. [3] D. B. Wilson, "Generating random spanning trees more quickly than the cover time", Proceedings of the 28th ACM
+       Symposium on Theory of Computing (1996) 296-303.
 
     Examples
     --------
@@ -77,30 +71,24 @@ def random_recurrent(
     >>> sandpile.burn(start).is_recurrent, start == sandpile.random_recurrent((64, 64), seed=7)
     (True, True)
     """
-    return drawn(shape_of(shape), _checked_seed(seed), checked_edge(cylinder), lambda: None)
+    return drawn(shape_of(shape), _sequence_of(seed), checked_edge(cylinder))
 
 
-def drawn(
-    shape: tuple[int, int], seed: np.random.SeedSequence | list[int] | None, edge: bool, go_on: Callable[[], None]
-) -> Recurrent:
-    """The pile of a checked seed. The element of a sum of piles, settled or not, is the sum of their elements. `go_on`, called before
-    each call of the library, may raise an error."""
-    height, width = shape
-    bits = _GRAIN_BITS - (height * width - 1).bit_length()
-    # NumPy promises the same words of a seed for all its versions, but not the same `integers`.
-    words = np.random.PCG64(seed).random_raw(2 * height * width)
-    total = np.zeros(shape, np.int64)
-    for heights in (words >> np.uint64(64 - bits)).reshape(2, height, width):
-        go_on()
-        total += settle(heights, edge).pile
-    go_on()
-    return recurrent(total, edge)
+def drawn(shape: tuple[int, int], seed: np.random.SeedSequence, edge: bool) -> Recurrent:
+    """The pile of a seed."""
+    heights = np.empty(shape, np.int64)
+    call("random", shape, edge, *map(int, seed.generate_state(2, np.uint64)), heights)
+    return Recurrent._known(heights, edge)
 
 
-def _checked_seed(seed: Any) -> np.random.SeedSequence | list[int] | None:
-    """A seed for NumPy, which accepts more, such as numbers in strings."""
-    if seed is None or isinstance(seed, np.random.SeedSequence):
+def _sequence_of(seed: Any) -> np.random.SeedSequence:
+    """The sequence of a seed. NumPy accepts more, such as numbers in strings."""
+    if isinstance(seed, np.random.SeedSequence):
         return seed
+    return np.random.SeedSequence(None if seed is None else _checked_seed(seed))
+
+
+def _checked_seed(seed: Any) -> list[int]:
     are_many = isinstance(seed, (list, tuple, range)) or isinstance(seed, np.ndarray) and seed.ndim
     try:
         numbers = [index_of(number, "seed") for number in (seed if are_many else [seed])]

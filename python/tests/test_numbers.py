@@ -27,6 +27,7 @@ def returned():
         yield from ((field, table[field]) for field in table.dtype.names)
     yield from (("avalanche", run.avalanche(7)[1]), ("Drive", run.pile), ("Drive", run.odometer))
     yield from (("burn", sandpile.burn(FULL).order), ("burn", sandpile.burn(FULL - 3).order))
+    yield from (("burn", sandpile.burn(FULL).time), ("Tree", a.tree().directions), ("Tree", a.tree().parents))
     yield from (("group", it.pile) for it in (a, sandpile.Recurrent(FULL), sandpile.identity((3, 5)), a + a, -a, 2**70 * a))
     yield from (("Part", numbers), ("SharedPile", record.pile), ("SharedPile", record.odometer), ("history", record.history))
     yield from (("lab", lab.pile), ("lab", lab.odometer))

@@ -1,10 +1,12 @@
-"""Random recurrent piles: each is as likely as any other, and what is known of a stationary pile is true of them."""
+"""Random recurrent piles: each is as likely as any other, and what is known of a stationary pile and its tree is true of them."""
 
 import unittest
 from concurrent.futures import ThreadPoolExecutor
+from unittest import mock
 
 import numpy as np
 import sandpile
+from sandpile import stationary
 
 PI = np.pi
 # The probability of each height far from the edge (Priezzhev 1994; Kenyon and Wilson 2015).
@@ -61,6 +63,15 @@ class Known(unittest.TestCase):
 
                 self.assertMean(in_threads(mean, 32), mean_size(side))
 
+    def test_leaves_of_trees(self):
+        # Far from the edge; Manna, Dhar and Majumdar 1992.
+        def share(seed):
+            parents = sandpile.random_recurrent((256, 256), seed).tree().parents
+            is_leaf = np.bincount(parents.ravel(), minlength=256**2 + 1)[:-1].reshape(256, 256) == 0
+            return is_leaf[64:192, 64:192].mean()
+
+        self.assertMean(in_threads(share, 12), 8 / PI**2 * (1 - 2 / PI))
+
     def test_sizes_on_a_cylinder(self):
         def mean(seed):
             run = sandpile.Drive(sandpile.random_recurrent((5, 16), seed, cylinder=True), seed=seed, cylinder=True)
@@ -70,12 +81,12 @@ class Known(unittest.TestCase):
 
 
 class Uniform(unittest.TestCase):
-    def test_each_element_is_equally_likely(self):
-        for height, width, cylinder, count in ((2, 2, False, 2000), (2, 3, False, 4000), (3, 3, True, 4000)):
+    def test_each_tree_is_equally_likely(self):
+        for height, width, cylinder, count in ((2, 2, False, 2000), (2, 3, False, 4000), (3, 3, True, 4000), (1, 4, True, 4000)):
             with self.subTest(height=height, width=width, cylinder=cylinder):
                 elements = round(np.linalg.det(toppling_matrix(height, width, cylinder)))
-                piles = [sandpile.random_recurrent((height, width), (1, at), cylinder).pile.ravel() for at in range(count)]
-                _, found = np.unique(piles, axis=0, return_counts=True)
+                piles = [sandpile.random_recurrent((height, width), (1, at), cylinder) for at in range(count)]
+                _, found = np.unique([pile.tree().directions.ravel() for pile in piles], axis=0, return_counts=True)
                 # The sum over all elements of (found - expected)^2 / expected; its variance is twice its mean.
                 chi_square = (found**2).sum() * elements / count - count
                 self.assertLess(abs(chi_square - (elements - 1)), 4 * (2 * (elements - 1)) ** 0.5)
@@ -98,7 +109,20 @@ class Index:
 
 class Seeds(unittest.TestCase):
     def test_the_pile_of_a_seed(self):
-        self.assertEqual(sandpile.random_recurrent((2, 3), 7).pile.tolist(), [[2, 0, 2], [3, 3, 1]])
+        self.assertEqual(sandpile.random_recurrent((2, 3), 7).pile.tolist(), [[2, 3, 3], [0, 1, 2]])
+
+    def test_the_words_of_a_seed_are_those_of_no_run(self):
+        # `sandpile_random` and `sandpile_sites` read one stream if they are given one seed and stream.
+        for seed in (7, np.random.SeedSequence(7)):
+            words, of_run = [], sandpile.Drive([[0]], seed)
+
+            def call(name, shape, edge, *numbers):
+                words.append(numbers[:2])
+
+            with mock.patch.object(stationary, "call", call):
+                sandpile.random_recurrent((2, 3), seed)
+            self.assertNotEqual(words, [(of_run.seed, of_run.stream)])
+            self.assertEqual(words, [tuple(np.random.SeedSequence(7).generate_state(2, np.uint64).tolist())])
 
     def test_what_is_a_seed(self):
         ones = [7, np.int64(7), np.array(7), Index(), np.random.SeedSequence(7)]

@@ -20,7 +20,7 @@ from unittest import mock
 
 import numpy as np
 import sandpile
-from sandpile import replicating, stationary
+from sandpile import replicating
 from tools import needs, needs_module, new_folder, ran, same
 
 MODULE = str(Path(sandpile.__file__).parents[1])
@@ -451,24 +451,25 @@ class Ends(unittest.TestCase):
         self.assertRaises(StopIteration, next, tables)
 
     def test_threads_end_at_their_next_call(self):
-        begun, go_on, here = [], threading.Event(), threading.local()
+        begun, made, go_on = [], [], threading.Event()
         self.addCleanup(go_on.set)
-        real, settle = replicating.drawn, sandpile.settle
+        real = replicating.drawn
 
-        def drawn(shape, seed, *words):
-            here.is_first = seed.spawn_key == (0,)
-            return real(shape, seed, *words)
-
-        def slow(*words):
-            if not here.is_first:
+        def slow(shape, seed, *words):
+            if seed.spawn_key != (0,):
                 begun.append(1)
                 go_on.wait(60)
-            return settle(*words)
+            return real(shape, seed, *words)
 
-        patches = mock.patch.object(replicating, "drawn", drawn), mock.patch.object(stationary, "settle", slow)
+        class Counted(sandpile.Drive):
+            def __init__(self, *words):
+                made.append(1)
+                super().__init__(*words)
+
+        patches = mock.patch.object(replicating, "drawn", slow), mock.patch.object(replicating, "Drive", Counted)
         with patches[0], patches[1], ThreadPoolExecutor(2) as pool:
             for executor in (None, pool):
-                begun.clear()
+                begun.clear(), made.clear()
                 go_on.clear()
                 tables = sandpile.replicas((3, 3), 1, itertools.count(), 5, executor)
                 self.assertEqual(len(next(tables)), 5)
@@ -476,7 +477,7 @@ class Ends(unittest.TestCase):
                 threading.Timer(0.1, go_on.set).start()
                 tables.close()
                 self.assertEqual([future.result() for future in [pool.submit(int) for _ in range(9)]], [0] * 9)
-                self.assertLessEqual(len(begun), os.cpu_count())  # no replica has made its second call
+                self.assertEqual(len(made), 1)  # no other replica has made its second call
 
     def stopped(self, script, *words, is_begun):
         """What a program writes after Ctrl-C of a terminal, which each of its processes gets."""

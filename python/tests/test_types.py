@@ -64,6 +64,11 @@ assert_type(sum([a, a], sandpile.identity(a.shape)), sandpile.Recurrent)
 assert_type(sandpile.random_recurrent(a.shape, seed=[7, 1], cylinder=True), sandpile.Recurrent)
 assert_type(sandpile.random_recurrent((6, 5), np.random.SeedSequence(7)), sandpile.Recurrent)
 assert_type(a.act(3).act(s.pile.argmax()).act(row=1, column=2), sandpile.Recurrent)
+assert_type(a.tree(), sandpile.Tree)
+assert_type(a.tree().directions, Counts)
+assert_type(a.tree().parents, Counts)
+assert_type(sandpile.Recurrent.from_tree(a.tree()), sandpile.Recurrent)
+assert_type(sandpile.Recurrent.from_tree([[0, 3]], cylinder=False), sandpile.Recurrent)
 assert_type(a == a, bool)
 assert_type(a != 3, bool)
 assert_type(a == s.pile, NDArray[np.bool_])
@@ -122,6 +127,7 @@ assert_type(sandpile.Fault(3).number, int)
 assert_type(sandpile.show(a), Any)
 sandpile.show(a).figure.savefig("a.png")
 sandpile.show(b)
+sandpile.show(a.tree())
 sandpile.show(b.forbidden, ax=sandpile.show([[1, 2]]))
 sandpile.animate(run, np.int64(5), toppling=True, interval=50).save("run.gif")
 
@@ -166,6 +172,8 @@ sandpile.replicas((6, 5), 7, range(3), 9, each=5)
 sandpile.replicas((6, 5), 7, range(3), 9, each=lambda: 5)
 run.pile = p
 a.act("0")
+a.tree().directions = p
+sandpile.Recurrent.from_tree(None)
 a + 1
 a * 1.5
 a / 2
