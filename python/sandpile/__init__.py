@@ -17,6 +17,7 @@ run in parallel.
 `SharedPile`                            many threads drop grains on one pile at once
 `burn`                                  whether a pile is recurrent
 `recurrent`, `identity`, `Recurrent`    the sandpile group
+`superstable`, `is_superstable`         superstable piles (G-parking functions)
 `random_recurrent`                      a random recurrent pile, each as likely as any other
 `Recurrent.tree`                        the spanning tree of a recurrent pile
 `lab`                                   a seeded run on many threads, by the program
@@ -43,11 +44,13 @@ from .replicating import REPLICA, Replicas, replicas
 from .settling import Settled, settle
 from .sharing import Part, Record, SharedPile
 from .stationary import random_recurrent
+from .superstables import is_superstable, superstable
 from .trees import Tree
 from .version import VERSION
 
 __version__ = VERSION
 __all__ = [
     "AVALANCHE", "EPOCH", "REPLICA", "Burned", "Drive", "Fault", "Part", "Record", "Recurrent", "Replicas", "Run", "Settled",
-    "SharedPile", "Tree", "animate", "burn", "identity", "lab", "random_recurrent", "recurrent", "replicas", "settle", "show",
+    "SharedPile", "Tree", "animate", "burn", "identity", "is_superstable", "lab", "random_recurrent", "recurrent", "replicas", "settle",
+    "show", "superstable",
 ]

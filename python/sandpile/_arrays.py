@@ -88,7 +88,9 @@ def _is_ragged(values: ArrayLike) -> bool:
     return not {list, tuple, np.ndarray}.isdisjoint(map(type, np.asarray(values, object).flat))
 
 
-def heights_and_edge(pile: ArrayLike, cylinder: bool | None, may_be_stack: bool = False) -> tuple[Heights, bool]:
+def heights_and_edge(
+    pile: ArrayLike, cylinder: bool | None, may_be_stack: bool = False, may_be_negative: bool = False
+) -> tuple[Heights, bool]:
     """The heights, as from `heights_of`, and whether the grid is a cylinder: as `cylinder` says, else as the pile itself."""
     pile = _listed(pile)
     is_list = isinstance(pile, (list, tuple))
@@ -97,7 +99,7 @@ def heights_and_edge(pile: ArrayLike, cylinder: bool | None, may_be_stack: bool 
     if edges and is_list:  # NumPy before 2 warns of objects in a list
         pile = [one.pile if isinstance(one, HasPile) else one for one in piles]
     try:
-        return heights_of(pile, may_be_stack), edge_of(edges, cylinder)
+        return heights_of(pile, may_be_stack, may_be_negative), edge_of(edges, cylinder)
     except MemoryError:
         raise Fault(_MEMORY, "not enough memory for a copy of the heights") from None
 
@@ -127,9 +129,9 @@ def checked_edge(cylinder: bool) -> bool:
     return bool(cylinder)
 
 
-def heights_of(pile: ArrayLike, may_be_stack: bool = False) -> Heights:
+def heights_of(pile: ArrayLike, may_be_stack: bool = False, may_be_negative: bool = False) -> Heights:
     """A new contiguous array of the heights, checked to be non-negative integers with two dimensions, or with three in a stack
-    of piles. A height of 2**63 or more is negative here, but not in the library."""
+    of piles. A height of 2**63 or more is negative here, but not in the library; if heights may be negative, it is refused."""
     if isinstance(pile, Mapping):
         raise TypeError(
             "a pile must be an array of shape (height, width), not a dictionary; "
@@ -142,12 +144,21 @@ def heights_of(pile: ArrayLike, may_be_stack: bool = False) -> Heights:
     check_sides(array.shape[-2:])
     if not array.size:
         return np.empty(array.shape, np.int64)
-    if array.dtype.kind != "u" and array.min() < 0:
-        raise ValueError(f"heights must be 0 or more, but the one in {_first(array, array < 0)}")
-    if array.dtype.kind == "O":
-        # No integer type has all heights of such a list, so one is 2**63 or more.
-        raise Fault(_TOO_MANY_GRAINS, f"the height in {_first(array, array >= 2**63)}, over 1,099,511,627,775")
+    if not may_be_negative and array.dtype.kind != "u" and array.min() < 0:
+        also = "recurrent and superstable take negative heights"
+        raise ValueError(f"heights must be 0 or more, but the one in {_first(array, array < 0)}; {also}")
+    # No integer type has all heights of a list of Python's integers.
+    if array.dtype.kind == "O" or may_be_negative and array.dtype.kind == "u":
+        _check_bits(array)
     return np.array(array, dtype=np.int64, order="C")
+
+
+def _check_bits(array: NDArray[Any]) -> None:
+    """Raises a fault for heights that int64 does not have."""
+    if array.max() >= 2**63:
+        raise Fault(_TOO_MANY_GRAINS, f"the height in {_first(array, array >= 2**63)}, over 1,099,511,627,775")
+    if array.dtype.kind == "O" and array.min() < -(2**63):
+        raise Fault(_TOO_MANY_GRAINS, f"the height in {_first(array, array < -(2**63))}, below -1,099,511,627,775")
 
 
 def _first(array: NDArray[Any], which: NDArray[np.bool_]) -> str:

@@ -6,6 +6,7 @@ import contextlib
 from collections.abc import Iterator
 
 from ._arrays import Heights
+from ._library import call
 from .faults import Fault
 from .settling import settle
 
@@ -24,3 +25,22 @@ def naming(number: int) -> Iterator[None]:
         yield
     except Fault as fault:
         raise Fault(fault.number, f"pile {number} of the stack: {fault.sentence}") from None
+
+
+def each_pile(name: str, heights: Heights, cylinder: bool, *others: Heights) -> None:
+    """Calls an export on a pile and other arrays, or on the piles of a stack and the parts of these arrays one by one."""
+    if heights.ndim == 2:
+        call(name, heights.shape, cylinder, heights, *others)
+        return
+    for number, one in enumerate_piles(heights, cylinder):
+        with naming(number):
+            call(name, one.shape, cylinder, one, *(other[number : number + 1] for other in others))
+
+
+def each_class(name: str, heights: Heights, cylinder: bool, *others: Heights) -> None:
+    """Calls `each_pile` for an export that takes negative heights: its limit is one of their absolute values."""
+    try:
+        each_pile(name, heights, cylinder, *others)
+    except Fault as fault:
+        said = fault.sentence.replace("the pile has", "the absolute values of the heights sum to")
+        raise Fault(fault.number, said) from None

@@ -6,14 +6,14 @@ to the sites. A stack of elements is computed pile by pile.
 
 from __future__ import annotations
 
-from typing import TYPE_CHECKING, Any, Sequence, SupportsIndex, overload
+from typing import TYPE_CHECKING, Any, Literal, Sequence, SupportsIndex, overload
 
 import numpy as np
 from numpy.typing import ArrayLike, NDArray
 
 from ._arrays import HasPile, Heights, checked_edge, directions_of, edge_of, heights_and_edge, index_of, shape_of, site_at
 from ._library import call
-from ._stacks import enumerate_piles, naming
+from ._stacks import each_class, each_pile
 from .burning import burned, burned_stack
 from .faults import Fault, ShapeError
 from .settling import settle
@@ -417,23 +417,49 @@ def identity(shape: Sequence[SupportsIndex], cylinder: bool = False) -> Recurren
     return Recurrent._known(heights, edge)
 
 
-def recurrent(pile: ArrayLike, cylinder: bool | None = None) -> Recurrent:
+@overload
+def recurrent(pile: ArrayLike, cylinder: bool | None = None, firing: Literal[False] = False) -> Recurrent: ...
+
+
+@overload
+def recurrent(
+    pile: ArrayLike, cylinder: bool | None = None, *, firing: Literal[True]
+) -> tuple[Recurrent, NDArray[np.int64]]: ...
+
+
+@overload
+def recurrent(pile: ArrayLike, cylinder: bool | None = None, firing: bool = False) -> Any: ...
+
+
+def recurrent(pile: ArrayLike, cylinder: bool | None = None, firing: bool = False) -> Any:
     """The recurrent pile equivalent to a pile, or to each pile of a stack: they differ by topplings, forward or backward.
 
     Parameters
     ----------
     pile : array_like of int
-        Grains on each site, shape (height, width), sides from 1 to 256, any integer type. Not modified. An array of shape
-        (k, height, width), or a list of piles of one shape, is a stack, which may be empty.
+        Grains on each site, shape (height, width), sides from 1 to 256, any integer type. Heights may be negative. Not
+        modified. An array of shape (k, height, width), or a list of piles of one shape, is a stack, which may be empty.
     cylinder : bool, optional
         Whether the first and the last column are neighbours. By default as in `pile` if that has a `cylinder`, else False.
+    firing : bool
+        Whether to return also how often each site topples.
+
+    Returns
+    -------
+    element : Recurrent
+        The recurrent pile, or a stack of them.
+    vector : numpy.ndarray
+        Only with `firing`: how often each site topples to get from the pile to the recurrent one, and if this is negative, how often
+        backward; the shape of `pile`, int64. With the toppling matrix L, the recurrent pile is the given one minus L times
+        this. No other vector has this property.
 
     Raises
     ------
     Fault
-        Side (1), Narrow (24), TooManyGrains (3), Memory (4), or Shapes (9) if `pile` has the other edge.
+        Side (1), Narrow (24), TooManyGrains (3) if the absolute values of the heights sum to more than 1,099,511,627,775,
+        Memory (4), or Shapes (9) if `pile` has the other edge.
     ValueError
-        If a height is below 0, or `pile` has neither two nor three dimensions; the latter is also a `TypeError`.
+        If `pile` has neither two nor three dimensions; this is also a `TypeError`.
     TypeError
         If the heights are not integers.
 
@@ -441,17 +467,20 @@ def recurrent(pile: ArrayLike, cylinder: bool | None = None) -> Recurrent:
     --------
     Recurrent : the operations of the group
     identity : the neutral element
+    superstable : the superstable pile equivalent to a pile
     burn : whether a pile is recurrent
     settle : the stable pile that a pile becomes by topplings forward
 
     Notes
     -----
-    Each pile is equivalent to exactly one recurrent pile [1]_.
+    Each pile is equivalent to exactly one recurrent pile [1]_, also if it has negative heights [2]_.
 
     References
     ----------
     .. [1] D. Dhar, "Self-organized critical state of sandpile automaton models", Physical Review Letters 64 (1990)
        1613-1616.
+    .. [2] L. Babai and I. Gorodezky, "Sandpile transience on the grid is polynomially bounded", Proceedings of the 18th
+       ACM-SIAM Symposium on Discrete Algorithms (2007) 627-636.
 
     Examples
     --------
@@ -462,12 +491,14 @@ def recurrent(pile: ArrayLike, cylinder: bool | None = None) -> Recurrent:
     >>> (a + sandpile.recurrent([[[0, 0, 0], [0, 0, 0]], [[9, 0, 0], [0, 0, 0]]])).pile[1]
     array([[1, 0, 3],
            [1, 3, 3]])
+    >>> sandpile.recurrent([[0, -1, 0]], firing=True)
+    (Recurrent([[3, 1, 3]]), array([[-1, -1, -1]]))
     """
-    heights, edge = heights_and_edge(pile, cylinder, may_be_stack=True)
-    if heights.ndim == 2:
-        call("recurrent", heights.shape, edge, heights)
+    heights, edge = heights_and_edge(pile, cylinder, may_be_stack=True, may_be_negative=True)
+    if not firing and not (heights < 0).any():
+        each_pile("recurrent", heights, edge)
         return Recurrent._known(heights, edge)
-    for number, one in enumerate_piles(heights, edge):
-        with naming(number):
-            call("recurrent", one.shape, edge, one)
-    return Recurrent._known(heights, edge)
+    vector = np.empty(heights.shape if firing else 0, np.int64)
+    each_class("class", heights, edge, vector)
+    element = Recurrent._known(heights, edge)
+    return (element, vector) if firing else element

@@ -135,6 +135,8 @@ class Refused(unittest.TestCase):
 
     def test_heights_below_0(self):
         for call in TAKES_PILE:
+            if call == "recurrent":  # which takes them
+                continue
             for name, pile in NEGATIVE.items():
                 with self.subTest(call=call, pile=name):
                     self.refuses(TAKES_PILE[call], ValueError, pile)

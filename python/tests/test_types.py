@@ -52,6 +52,11 @@ assert_type(b.time, Counts)
 
 a = sandpile.recurrent(p)
 assert_type(a, sandpile.Recurrent)
+assert_type(sandpile.recurrent(-p, firing=True), tuple[sandpile.Recurrent, Counts])
+assert_type(sandpile.recurrent(-p, cylinder=True, firing=False), sandpile.Recurrent)
+assert_type(sandpile.recurrent(p, firing=s.lost > 9), Any)
+assert_type(sandpile.superstable(-p), Counts)
+assert_type(sandpile.is_superstable(p), Any)  # of a stack it is an array
 assert_type(a.pile, Counts)
 assert_type(a.shape, tuple[int, int])
 assert_type(a.cylinder, bool)
@@ -149,6 +154,8 @@ sandpile.settle(None)
 sandpile.settle(p, cylinder="c")
 sandpile.settle(p).heights
 sandpile.settle(p).lost = 3
+sandpile.recurrent(p, firing="z")
+sandpile.superstable(None)
 sandpile.identity(3)
 sandpile.identity("ab")
 sandpile.Drive(p, seed="7")
