@@ -124,6 +124,7 @@ module _ {g : Grid} {site : ℕ} {ρ τ : ℕ → Tile} (past : HasPassed g site
             let low' = height_low (τ (tile_of g j)) (place_of g j) in
             grind (arith, nat_tests, past.whole.started, past.empty, past.whole.wave.at_open j l);
       } in
-      let nonzero : flow g t site ≢ 0 = λ none. omega
-      (arith, past.whole.wave.needed (one_at site) (covers_of site inside (has_four g site ρ) (alone none)) i li, one_at_other site i (λ e. ni (sym e))) in
+      let nonzero : flow g t site ≢ 0 = λ none.
+      let covers = covers_of site inside (has_four g site ρ) (alone none) in
+      omega (arith, past.whole.wave.needed (one_at site) covers i li, one_at_other site i (λ e. ni (sym e))) in
       omega arith

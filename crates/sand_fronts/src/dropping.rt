@@ -10,8 +10,8 @@
 //! - **It ends**, since each toppling lowers the weight of the pile.
 //! - **It is right**: each wave is a legal sequence of topplings and the end is stable, so the growth of the counts is
 //!   the least odometer (`settled`).
-//! - **Each wave is the least** that topples the dropped site and leaves at most 3 at each other site (`IsOneWave`), so its
-//!   size is determined by the heights before it (`waves`).
+//! - **Each wave is the least** that topples the dropped site and leaves at most 3 at each other site (`IsOneWave`). So
+//!   its size is determined by the heights before it (`waves`).
 
 ghost use Rattle.std.specs.Prelude.{◌≡◌, ℕ, ◌^◌, ◌<◌, slice_set};
 ghost use Rattle.sand_model.specs.Sand.{lost, topplings};
@@ -37,9 +37,9 @@ fn note(list: &mut [u64], position: usize, number: u64)
     }
 }
 
-/// Topples a site that has 4, and all that follows. Counts the topplings of each site and marks the sites. Writes the sizes
-/// of the waves to a list, as many as it has room for. Returns the number of topplings and of grains that fell into the
-/// sink, and the number of waves.
+/// Topples a site that has 4, and all that follows. Counts the topplings of each site and marks the sites. Writes the
+/// sizes of the waves to a list, as many as it has room for. Returns the number of topplings and of grains that fell into
+/// the sink, and the number of waves.
 pub(crate) fn topple_all(
     board: &Board,
     sand: &mut Sand,

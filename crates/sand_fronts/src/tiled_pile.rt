@@ -54,7 +54,8 @@ fn topple_grain(
     ensures all_open { AreAllOpen board.old.shape (free_of board.new) }
     ensures settled { HasSettled board.old.shape (λ j. heights_on board.old.shape (tiles_of sand.old) j + one_at site j)
         sand.new counts.old counts.new }
-    ensures waves { HasWaves board.old.shape site (λ j. heights_on board.old.shape (tiles_of sand.old) j + one_at site j)
+    ensures waves { HasWaves board.old.shape site
+        (λ j. heights_on board.old.shape (tiles_of sand.old) j + one_at site j)
         (heights_on board.old.shape (tiles_of sand.new)) result.1 sizes.old sizes.new }
     ensures marked { AreToppled board.old.shape (grown board.old.shape counts.old counts.new) (marks_of counts.new) }
     ensures size { result.0.size ≡ topplings board.old.shape (grown board.old.shape counts.old counts.new) }

@@ -5,6 +5,8 @@ use Rattle.std.proofs.lemmas.List.{ext_get_or}
 use Rattle.sand_model.specs.Grid.{sites}
 use Rattle.sand_model.specs.Sand.{IsSettled, one_at}
 use Rattle.sand_model.specs.Piles.{PileView, IsPile, height_of, most_grains}
+use Rattle.sand_model.specs.Edges.{to_edge}
+use Rattle.sand_model.proofs.Edges.{topples_few}
 use Rattle.sand_model.proofs.Sandpile.{settled_same}
 use Rattle.sand_model.proofs.Bounds.{at_most_sum_below}
 use Rattle.sand_fronts.specs.TiledPiles.{TiledView, IsTiledView, HasDropped, by_site, toppled_between}
@@ -131,6 +133,7 @@ pub record WavesOn (r : SettledView) (t u : TiledView) (site n : ℕ) (f : Avala
       n before after
   pub one_each : n
       ≡ topplings_between (driven_record r t all gone) (driven_record r u (all + f.size) (gone + f.lost)) site
+  pub few : n ≤ to_edge r.pile.grid site
   pub sum_of_sizes : n ≤ length before → sum (take n after) ≡ f.size
 
 pub waves_on : {r : SettledView} {t u : TiledView} {site n : ℕ} {f : Avalanche} {number all gone grains : ℕ}
@@ -138,16 +141,20 @@ pub waves_on : {r : SettledView} {t u : TiledView} {site n : ℕ} {f : Avalanche
     → IsDriven r t number all gone grains → site < sites r.pile.grid → DropsOn r t u site f number all gone grains
     → HasWaves t.grid site (λ j. slice_index t.heights j + one_at site j) (slice_index u.heights) n before after
     → WavesOn r t u site n f all gone before after
-waves_on {r} {t} {u} {site} {n} {f} {all = all} {gone = gone} {before = before} {after = after} driven inside dropped has =
+waves_on {r} {t} {u} {site} {n} {f} {all = all} {gone = gone} {before = before} {after = after} driven inside dropped
+    has =
     let g = r.pile.grid in
     let s : ℕ → ℕ = λ j. slice_index t.heights j + one_at site j in
     let v = topplings_between (driven_record r t all gone) (driven_record r u (all + f.size) (gone + f.lost)) in
     let waves = subst (λ h. HasWaves h site s (slice_index u.heights) n before after) driven.one_grid has in
     let up = waves_add_up g site s v (slice_index u.heights) waves.sizes inside waves.lead dropped.taken.settled in
+    let few = topples_few g (slice_index t.heights) v site inside driven.paid.stable dropped.taken.settled.odometer
+    site inside in
     let each = waves.each in
     record {
       waves = waves;
       one_each = omega (arith, up.0);
-      sum_of_sizes = λ room. ap sum (ap (λ k. take k after) (sym each) ∙ written_whole waves.written (omega arith)) ∙ up.1
-          ∙ sym dropped.avalanche.size;
+      few = omega (arith, up.0, few);
+      sum_of_sizes = λ room. ap sum (ap (λ k. take k after) (sym each) ∙ written_whole waves.written (omega arith))
+          ∙ up.1 ∙ sym dropped.avalanche.size;
     }

@@ -93,8 +93,8 @@ impl DrivenPile {
         Ok((number, avalanche))
     }
 
-    /// The same, and writes the size of each wave of the avalanche to a list, as many as it has room for. Also returns the
-    /// number of waves.
+    /// The same, and writes the size of each wave of the avalanche to a list, as many as it has room for. Also returns
+    /// the number of waves.
     pub fn drop_with_waves(
         &mut self,
         site: usize,

@@ -77,5 +77,6 @@ returns-clause-waves c =
     (c.self.inside.lost + c.drop_with_waves-waves.result.0.lost)) (c.self.inside.number + 1))) c.self.view_is (record {
       waves = waves.waves;
       one_each = waves.one_each;
+      few = waves.few;
       sum_of_sizes = waves.sum_of_sizes;
     })
