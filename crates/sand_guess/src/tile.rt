@@ -2,8 +2,8 @@
 //!
 //! In a visit each site of a tile topples that may, and each that this brings to 4, once at most. A front topples at
 //! once: it is moved four ways and added to the heights bit by bit, as an adder does it, and the carries are due next. A
-//! site with 3 grains next to one that topples must topple, too: it joins the front, so that a visit has fewer rounds
-//! (docs/SETTLING.md, "Drops").
+//! site with 3 grains next to one that topples must topple, too, and so on: two steps of this flood join each front, so
+//! that a visit has fewer rounds (docs/SETTLING.md, "Drops").
 
 use std::simd::prelude::*;
 
@@ -52,6 +52,13 @@ fn moved(set: u16x8) -> [u16x8; 4] {
     ]
 }
 
+// The places next to those of a set.
+#[inline(always)]
+fn next_to(set: u16x8) -> u16x8 {
+    let [south, north, east, west] = moved(set);
+    south | north | east | west
+}
+
 /// The last row of a set as the first row of the tile to the south.
 #[inline(always)]
 pub(crate) fn sent_south(set: u16x8) -> u16x8 {
@@ -97,17 +104,18 @@ impl Tile {
         self.due |= due;
     }
 
-    /// One round of a visit: topples places that are due, and the flood, which it returns.
+    /// One round of a visit: topples places that are due, and the flood, whose two steps it returns.
     #[inline(always)]
-    pub(crate) fn topple(&mut self, due: u16x8, toppled: u16x8) -> u16x8 {
-        let [south, north, east, west] = moved(due);
+    pub(crate) fn topple(&mut self, due: u16x8, toppled: u16x8) -> [u16x8; 2] {
         let ready = self.low & self.high & self.four & !(self.due | toppled);
-        let flood = ready & (south | north | east | west);
+        let first = ready & next_to(due);
+        let second = ready & next_to(first) & !first;
+        let flood = first | second;
         let stays = self.four | !due;
         self.due &= stays;
         self.four ^= due;
         self.give(due | flood, flood);
-        flood
+        [first, second]
     }
 
     /// Topples what may topple, once each, and returns it. It is a call of its own, so that the registers hold the tile.
@@ -120,7 +128,8 @@ impl Tile {
             if !is_any(due) {
                 break;
             }
-            toppled |= due | tile.topple(due, toppled);
+            let [first, second] = tile.topple(due, toppled);
+            toppled |= due | first | second;
         }
         *self = tile;
         toppled

@@ -190,11 +190,26 @@ fn marks_of(place: &Place, counts: &[i64], least: i64) -> u16x8 {
     u16x8::from_array(rows)
 }
 
+// Takes back a toppling of each site of a set, and returns those of which none can be taken back any more.
+fn untopple(place: &Place, counts: &mut [i64], set: u16x8, least: i64) -> u16x8 {
+    let mut rows = set.to_array();
+    for row in 0..ROWS {
+        if rows[row] != 0 {
+            let cells = place.row_mut(counts, row);
+            add_bits(cells, rows[row], -1);
+            rows[row] &= !above(cells, least);
+        }
+    }
+    u16x8::from_array(rows)
+}
+
 // Adds a number at the sites of a set of places of a tile.
 fn add_where(place: &Place, sums: &mut [i64], set: u16x8, number: i64) {
     let rows = set.to_array();
     for row in 0..ROWS {
-        add_bits(place.row_mut(sums, row), rows[row], number);
+        if rows[row] != 0 {
+            add_bits(place.row_mut(sums, row), rows[row], number);
+        }
     }
 }
 
@@ -267,10 +282,11 @@ impl Tiles {
             if !is_any(due) {
                 break;
             }
-            let flood = tile.topple(due, toppled);
-            toppled |= due | flood;
+            let [first, second] = tile.topple(due, toppled);
+            toppled |= due | first | second;
             self.put_turns(k, due);
-            self.put_turns(k, flood);
+            self.put_turns(k, first);
+            self.put_turns(k, second);
         }
         toppled
     }
@@ -418,13 +434,11 @@ impl Tiles {
     }
 
     // Takes back a toppling of each site that did not burn.
-    fn untopple(&mut self, counts: &mut [i64], least: i64) {
+    fn untopple_all(&mut self, counts: &mut [i64], least: i64) {
         let n = self.unburnt.len().min(self.marks.len());
         for k in 0..n.min(self.places.len()) {
-            if is_any(self.unburnt[k]) {
-                add_where(&self.places[k], counts, self.unburnt[k], -1);
-                self.marks[k] = marks_of(&self.places[k], counts, least);
-            }
+            let last = untopple(&self.places[k], counts, self.unburnt[k], least);
+            self.marks[k] = self.marks[k] & !last;
         }
     }
 
@@ -437,7 +451,7 @@ impl Tiles {
             if !self.burn() {
                 return true;
             }
-            self.untopple(counts, least);
+            self.untopple_all(counts, least);
         }
         false
     }
