@@ -3,7 +3,7 @@
 //! The queue is the plain way, always right, and fast if little topples. A light pile, of which a bound shows that not
 //! much topples (`is_light`), goes to the queue at once, and stays there. On other piles the queue comes first, for a few
 //! turns per site, unless the pile is found to be high (`sand_guess::is_high`). If the queue has not settled the pile, its
-//! odometer is claimed: by sweeps over all sites if the pile is low and flat (`sand_guess::toppled`), and then by a guess
+//! odometer is claimed: by toppling on tiles if the pile is low and flat (`sand_guess::toppled`), and then by a guess
 //! (`sand_guess::guessed`). A claim is certified (`sand_certify`), which is a proof. If every claim is rejected, the
 //! queue settles the pile from the start, however long that takes. Nothing is proved of what `sand_guess` returns: a
 //! wrong claim costs time, and the result is the same.
@@ -24,8 +24,8 @@ const TURNS_BEFORE_A_GUESS: u64 = 16;
 
 const MORE_TURNS_BEFORE_A_GUESS: u64 = 512;
 
-// The turns per site before sweeps are tried. The queue is faster than sweeps only if hardly anything topples.
-const TURNS_BEFORE_SWEEPS: u64 = 1;
+// The turns per site before tiles are tried. The queue is faster than tiles only if hardly anything topples.
+const TURNS_BEFORE_TILES: u64 = 1;
 
 // The same if a pile is no denser than settled piles are: about as many sites topple as there are.
 const TURNS_IF_SPARSE: u64 = 3;
@@ -94,7 +94,7 @@ pub(crate) fn settle_by_claim(
     }))
 }
 
-// Settles a pile if little topples: by the queue in a few turns, or by sweeps.
+// Settles a pile if little topples: by the queue in a few turns, or on tiles.
 fn settle_if_low(alloc: Global, pile: &Pile) -> Result<Option<Rest>, AllocError>
     ensures { IfOk result (λ o. IfSome o (ComesToRest pile.now)) }
 {
@@ -103,7 +103,7 @@ fn settle_if_low(alloc: Global, pile: &Pile) -> Result<Option<Rest>, AllocError>
     let budget = if is_flat && pile.grains() * 8 <= sites * 17 {
         sites * TURNS_IF_SPARSE
     } else if is_flat {
-        sites * TURNS_BEFORE_SWEEPS
+        sites * TURNS_BEFORE_TILES
     } else {
         sites * TURNS_BEFORE_A_GUESS + MORE_TURNS_BEFORE_A_GUESS
     };
@@ -114,7 +114,7 @@ fn settle_if_low(alloc: Global, pile: &Pile) -> Result<Option<Rest>, AllocError>
     settle_by_claim(alloc, pile, toppled(alloc, pile)?)
 }
 
-// Settles a pile of which more may topple: by the queue or by sweeps if little does, otherwise by a guess.
+// Settles a pile of which more may topple: by the queue or on tiles if little does, otherwise by a guess.
 fn settle_unless_light(alloc: Global, pile: &Pile) -> Result<Option<Rest>, AllocError>
     ensures { IfOk result (λ o. IfSome o (ComesToRest pile.now)) }
 {
