@@ -47,10 +47,11 @@ from .stationary import random_recurrent
 from .superstables import is_superstable, superstable
 from .trees import Tree
 from .version import VERSION
+from .waves import WAVE
 
 __version__ = VERSION
 __all__ = [
-    "AVALANCHE", "EPOCH", "REPLICA", "Burned", "Drive", "Fault", "Part", "Record", "Recurrent", "Replicas", "Run", "Settled",
+    "AVALANCHE", "EPOCH", "REPLICA", "WAVE", "Burned", "Drive", "Fault", "Part", "Record", "Recurrent", "Replicas", "Run", "Settled",
     "SharedPile", "Tree", "animate", "burn", "identity", "is_superstable", "lab", "random_recurrent", "recurrent", "replicas", "settle",
     "show", "superstable",
 ]

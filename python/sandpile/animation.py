@@ -4,7 +4,7 @@ from __future__ import annotations
 
 import copy
 import sys
-from collections.abc import Generator, Iterator
+from collections.abc import Callable, Generator, Iterator
 from typing import TYPE_CHECKING, SupportsIndex
 
 import numpy as np
@@ -25,10 +25,13 @@ if TYPE_CHECKING:
 _TOPPLED, _TOPPLES = 4, 8
 # How much of the colour of a site that has toppled is red.
 _TINT = 0.5
+# No site topples.
+_NONE = np.zeros(1, bool)
 
 
 def animate(
-    run: Drive, drops: SupportsIndex = 100, toppling: bool = False, interval: float = 100, ax: Axes | None = None
+    run: Drive, drops: SupportsIndex = 100, toppling: bool = False, interval: float = 100, ax: Axes | None = None,
+    waves: bool = False,
 ) -> FuncAnimation:
     """Draws the next avalanches of a run, those at random sites. The run itself stays as it is.
 
@@ -46,6 +49,8 @@ def animate(
         Milliseconds from one frame to the next.
     ax : matplotlib.axes.Axes, optional
         Where to draw; by default a new figure of about 512 pixels.
+    waves : bool
+        Whether to draw each avalanche wave by wave. The sites of a wave are red before it.
 
     Returns
     -------
@@ -58,7 +63,7 @@ def animate(
     ImportError
         If matplotlib is not installed.
     TypeError
-        If `run` is not a `Drive`, or `drops` is not an integer.
+        If `run` is not a `Drive`, `drops` is not an integer, or both `toppling` and `waves` are asked for.
     Fault
         Plan (15) if `drops` is negative, Memory (4), or, when it is drawn, Full (6), as from `Drive.drop`.
 
@@ -66,6 +71,7 @@ def animate(
     --------
     show : a single picture
     Drive.avalanche : one drop, and how often each site topples in it
+    Drive.waves : one drop, and which sites topple in each wave of its avalanche
 
     Examples
     --------
@@ -79,6 +85,8 @@ def animate(
 
     if not isinstance(run, Drive):
         raise TypeError(f"run must be a Drive, not {type(run).__name__}")
+    if toppling and waves:
+        raise TypeError("an avalanche is drawn step by step (toppling) or wave by wave (waves), not both")
     number, start = count_of(drops, "drops"), copy.copy(run)
     if ax is None:
         ax, _ = new_axes(start.pile.shape)
@@ -87,7 +95,7 @@ def animate(
     image = ax.imshow(start.pile, cmap=colours, vmin=-0.5, vmax=_TOPPLES + 0.5, interpolation="nearest")
     ax.set_axis_off()
     figure = ax.figure.figure  # that of a subfigure is the whole one, which alone can be saved
-    frames = _steps if toppling else _drops
+    frames = _steps if toppling else _waves if waves else _drops
 
     def draw(heights: Heights) -> tuple[AxesImage, ...]:
         image.set_data(heights)
@@ -96,7 +104,7 @@ def animate(
     # Each time that the animation begins, another copy makes the drops.
     return FuncAnimation(
         figure, draw, lambda: frames(copy.copy(start), number), lambda: (image,),
-        interval=interval, save_count=sys.maxsize if toppling else number, cache_frame_data=False,
+        interval=interval, save_count=sys.maxsize if toppling or waves else number, cache_frame_data=False,
     )
 
 
@@ -115,15 +123,29 @@ def _steps(run: Drive, drops: int) -> Generator[Heights, None, None]:
     for _ in range(drops):
         heights = run.pile
         heights.flat[run.drop(1)["site"]] += 1
-        yield from _avalanche(heights, run.cylinder)
+        yield from _avalanche(heights, run.cylinder, lambda now: now > 3)
 
 
-def _avalanche(heights: Heights, cylinder: bool) -> Iterator[Heights]:
-    topples, toppled = heights > 3, np.zeros(heights.shape, bool)
+def _waves(run: Drive, drops: int) -> Generator[Heights, None, None]:
+    """A frame before the first wave of each avalanche, and one after each of its waves."""
+    for _ in range(drops):
+        heights = run.pile
+        row, _, masks = run.waves()
+        heights.flat[row["site"]] += 1
+        left = iter(masks)
+        yield from _avalanche(heights, run.cylinder, lambda _: next(left, _NONE))
+
+
+def _avalanche(
+    heights: Heights, cylinder: bool, toppling: Callable[[Heights], NDArray[np.bool_]]
+) -> Iterator[Heights]:
+    """A frame before each step of an avalanche, in which the sites topple that `toppling` returns for the heights, and one at
+    its end."""
+    topples, toppled = toppling(heights), np.zeros(heights.shape, bool)
     while topples.any():
         yield np.where(topples, _TOPPLES, heights + _TOPPLED * toppled)
         heights = _after_step(heights, topples, cylinder)
-        topples, toppled = heights > 3, toppled | topples
+        topples, toppled = toppling(heights), toppled | topples
     yield heights + _TOPPLED * toppled
 
 

@@ -14,12 +14,13 @@ from typing import Any, Callable, Iterator, Literal, NamedTuple, Optional, Suppo
 import numpy as np
 from numpy.typing import ArrayLike, NDArray
 
-from . import _saves, recording
+from . import _saves, recording, waves as _waves
 from ._arrays import HasPile, Heights, count_of, heights_and_edge, new_array, seed_of, site_at, sites_at
 from ._handles import DriveHandle
 from ._library import call, call_at
 from .faults import Fault
 from .progress import Bar
+from .waves import Gathered, most_waves
 
 _MOST_GRAINS = 1_099_511_627_775
 # Limits of a block of drops, which Ctrl-C cannot interrupt: the number of drops, and drops times sites. The time of a
@@ -85,6 +86,11 @@ def _drop(sites: int, n: int, found: int) -> _Call:
 def _avalanche(site: int, found: int, topplings: int, sites: int) -> _Call:
     """The call that drops a grain at a site, and writes the topplings of each of the `sites` at an address."""
     return "sandpile_drive_avalanche", site, found, topplings, sites
+
+
+def _drop_in_waves(sites: int, n: int, found: int, sizes: NDArray[np.int64]) -> _Call:
+    """The call that drops a grain at each of the `n` sites at an address, and writes the sizes of all waves."""
+    return "sandpile_drive_waves", sites, n, found, n, sizes.ctypes.data, sizes.size
 
 
 def _site_in(address: int) -> int:
@@ -291,17 +297,24 @@ class Drive(HasPile):
         return height, width
 
     @overload
-    def drop(self, n: SupportsIndex, progress: bool = False, odometers: Literal[False] = False) -> NDArray[np.void]: ...
+    def drop(
+        self, n: SupportsIndex, progress: bool = False, odometers: Literal[False] = False, waves: Literal[False] = False
+    ) -> NDArray[np.void]: ...
 
     @overload
     def drop(
-        self, n: SupportsIndex, progress: bool = False, *, odometers: Literal[True]
+        self, n: SupportsIndex, progress: bool = False, *, odometers: Literal[True], waves: Literal[False] = False
     ) -> tuple[NDArray[np.void], Heights]: ...
 
     @overload
-    def drop(self, n: SupportsIndex, progress: bool = False, odometers: bool = False) -> Any: ...
+    def drop(
+        self, n: SupportsIndex, progress: bool = False, odometers: Literal[False] = False, *, waves: Literal[True]
+    ) -> tuple[NDArray[np.void], NDArray[np.void]]: ...
 
-    def drop(self, n: SupportsIndex, progress: bool = False, odometers: bool = False) -> Any:
+    @overload
+    def drop(self, n: SupportsIndex, progress: bool = False, odometers: bool = False, waves: bool = False) -> Any: ...
+
+    def drop(self, n: SupportsIndex, progress: bool = False, odometers: bool = False, waves: bool = False) -> Any:
         """Drops `n` grains at the next random sites.
 
         Ctrl-C stops between two blocks of drops. It raises `KeyboardInterrupt`; the pile then has all drops so far, and
@@ -316,6 +329,9 @@ class Drive(HasPile):
             drops are made without.
         odometers : bool
             Whether to return also how often each site topples in each avalanche. A block is then a single drop.
+        waves : bool
+            Whether to return also the sizes of the waves of each avalanche [1]_; `Drive.waves` says what a wave is. Not with
+            `odometers`: a copy of the run makes the same drops again.
 
         Returns
         -------
@@ -327,6 +343,10 @@ class Drive(HasPile):
             `blocks` make the rows of a long run without having all in memory.
         topplings : numpy.ndarray
             Only with `odometers`: how often each site topples in each avalanche; shape (n, height, width), int64.
+        sizes : numpy.ndarray
+            Only with `waves`: a structured array with a row for each wave: the `number` of its drop, which `wave` of the drop it
+            is, from 0, and its `size`, the sites that topple in it, once each. There are as many waves as the site of the drop
+            topples, and the sizes of all waves of a drop sum to the size in `table`.
 
         Raises
         ------
@@ -335,9 +355,14 @@ class Drive(HasPile):
             or Memory (4), which keeps the blocks before it, like Ctrl-C; if the arrays that are returned cannot be made, no
             grain drops.
         TypeError
-            If `n` is not an integer.
+            If `n` is not an integer, or both `odometers` and `waves` are asked for.
         RuntimeError
             If another call is dropping grains on this run, in another thread.
+
+        References
+        ----------
+        .. [1] E. V. Ivashkevich, D. V. Ktitarev and V. B. Priezzhev, "Waves of topplings in an Abelian sandpile", Physica A
+           209 (1994) 347-360.
 
         Examples
         --------
@@ -347,9 +372,14 @@ class Drive(HasPile):
         >>> table, topplings = sandpile.Drive([[3, 3]]).drop(5, odometers=True)
         >>> topplings.shape, bool((topplings.sum(axis=(1, 2)) == table["size"]).all())
         ((5, 1, 2), True)
+        >>> table, sizes = sandpile.Drive([[3]]).drop(5, waves=True)
+        >>> sizes["number"], sizes["wave"], sizes["size"]
+        (array([0, 4]), array([0, 0]), array([1, 1]))
         """
-        if odometers:
-            return self._with_odometers(lambda: (count_of(n, "n"), lambda begin, end: self._draw(end - begin)), progress, draws=True)
+        if odometers or waves:
+            return self._with_more(
+                lambda: (count_of(n, "n"), lambda begin, end: self._draw(end - begin)), progress, True, odometers, waves
+            )
         return self._drop(self._at_random(n), progress, draws=True)
 
     def _at_random(self, n: SupportsIndex) -> Callable[[], _Wanted]:
@@ -364,11 +394,31 @@ class Drive(HasPile):
         """Makes a block of at most so many drops at random sites. Only under the lock for drops."""
         return self._make_all(self._at_random(min(most, self._most)), False, True, self._most)
 
+    def _with_more(
+        self, ask: Callable[[], _Places], progress: bool, draws: bool, odometers: bool, waves: bool
+    ) -> tuple[NDArray[np.void], NDArray[Any]]:
+        """Makes the drops that `ask` returns when it has checked the arguments, and returns the table with one thing more."""
+        if odometers and waves:
+            raise TypeError("a drop returns odometers or waves; a copy of the run makes the same drops again")
+        return (self._with_odometers if odometers else self._with_waves)(ask, progress, draws)
+
+    def _with_waves(
+        self, ask: Callable[[], _Places], progress: bool, draws: bool
+    ) -> tuple[NDArray[np.void], NDArray[np.void]]:
+        gathered = Gathered(most_waves(self._shape, self._cylinder))
+
+        def asked() -> _Wanted:
+            drops, place = ask()
+            return drops, lambda begin, end, found: _drop_in_waves(
+                place(begin, end), end - begin, found, gathered.room(end - begin)
+            )
+
+        table = self._drop(asked, progress, draws)
+        return table, gathered.of(table)
+
     def _with_odometers(
         self, ask: Callable[[], _Places], progress: bool, draws: bool
     ) -> tuple[NDArray[np.void], Heights]:
-        """Makes the drops that `ask` returns when it has checked the arguments, one by one. Returns the table, and the topplings of
-        each."""
         topplings: Heights = _NO_HEIGHTS
 
         def asked() -> _Wanted:
@@ -383,17 +433,28 @@ class Drive(HasPile):
         return self._drop(asked, progress, draws, most=1), topplings
 
     @overload
-    def blocks(self, n: SupportsIndex, size: SupportsIndex, odometers: Literal[False] = False) -> Iterator[NDArray[np.void]]: ...
+    def blocks(
+        self, n: SupportsIndex, size: SupportsIndex, odometers: Literal[False] = False, waves: Literal[False] = False
+    ) -> Iterator[NDArray[np.void]]: ...
 
     @overload
     def blocks(
-        self, n: SupportsIndex, size: SupportsIndex, odometers: Literal[True]
+        self, n: SupportsIndex, size: SupportsIndex, odometers: Literal[True], waves: Literal[False] = False
     ) -> Iterator[tuple[NDArray[np.void], Heights]]: ...
 
     @overload
-    def blocks(self, n: SupportsIndex, size: SupportsIndex, odometers: bool = False) -> Iterator[Any]: ...
+    def blocks(
+        self, n: SupportsIndex, size: SupportsIndex, odometers: Literal[False] = False, *, waves: Literal[True]
+    ) -> Iterator[tuple[NDArray[np.void], NDArray[np.void]]]: ...
 
-    def blocks(self, n: SupportsIndex, size: SupportsIndex, odometers: bool = False) -> Iterator[Any]:
+    @overload
+    def blocks(
+        self, n: SupportsIndex, size: SupportsIndex, odometers: bool = False, waves: bool = False
+    ) -> Iterator[Any]: ...
+
+    def blocks(
+        self, n: SupportsIndex, size: SupportsIndex, odometers: bool = False, waves: bool = False
+    ) -> Iterator[Any]:
         """Drops `n` grains at the next random sites, and yields their table in parts, so not all rows are in memory at once.
 
         Each part is a call of `drop`, made when it is asked for. So between two of them the run has the drops of the parts
@@ -405,7 +466,7 @@ class Drive(HasPile):
             Number of grains.
         size : int
             The rows of each part, at least 1; the last part may have fewer.
-        odometers : bool
+        odometers, waves : bool
             As for `drop`.
 
         Returns
@@ -429,29 +490,37 @@ class Drive(HasPile):
         [300, 300, 300, 100]
         """
         drops, most = count_of(n, "n"), count_of(size, "size", least=1)
-        return (self.drop(min(most, drops - begin), odometers=odometers) for begin in range(0, drops, most))
+        return (
+            self.drop(min(most, drops - begin), odometers=odometers, waves=waves) for begin in range(0, drops, most)
+        )
 
     @overload
     def drop_at(
         self, sites: ArrayLike | None = None, *, rows: ArrayLike | None = None, columns: ArrayLike | None = None,
-        odometers: Literal[False] = False,
+        odometers: Literal[False] = False, waves: Literal[False] = False,
     ) -> NDArray[np.void]: ...
 
     @overload
     def drop_at(
         self, sites: ArrayLike | None = None, *, rows: ArrayLike | None = None, columns: ArrayLike | None = None,
-        odometers: Literal[True],
+        odometers: Literal[True], waves: Literal[False] = False,
     ) -> tuple[NDArray[np.void], Heights]: ...
 
     @overload
     def drop_at(
         self, sites: ArrayLike | None = None, *, rows: ArrayLike | None = None, columns: ArrayLike | None = None,
-        odometers: bool = False,
+        odometers: Literal[False] = False, waves: Literal[True],
+    ) -> tuple[NDArray[np.void], NDArray[np.void]]: ...
+
+    @overload
+    def drop_at(
+        self, sites: ArrayLike | None = None, *, rows: ArrayLike | None = None, columns: ArrayLike | None = None,
+        odometers: bool = False, waves: bool = False,
     ) -> Any: ...
 
     def drop_at(
         self, sites: ArrayLike | None = None, *, rows: ArrayLike | None = None, columns: ArrayLike | None = None,
-        odometers: bool = False,
+        odometers: bool = False, waves: bool = False,
     ) -> Any:
         """Drops a grain at each of these sites in turn. Uses no random sites.
 
@@ -463,15 +532,15 @@ class Drive(HasPile):
         rows, columns : array_like of int
             Instead of `sites`, their rows and their columns, each from 0. They are broadcast, and taken row by row if there
             are several dimensions.
-        odometers : bool
+        odometers, waves : bool
             As for `drop`.
 
         Returns
         -------
         table : numpy.ndarray
             The avalanches, as from `drop`.
-        topplings : numpy.ndarray
-            Only with `odometers`, as from `drop`.
+        topplings, sizes : numpy.ndarray
+            One of them, only with `odometers` or `waves`, as from `drop`.
 
         Raises
         ------
@@ -506,8 +575,8 @@ class Drive(HasPile):
             n, place = places()
             return n, lambda begin, end, found: _drop(place(begin, end), end - begin, found)
 
-        if odometers:
-            return self._with_odometers(places, progress=False, draws=False)
+        if odometers or waves:
+            return self._with_more(places, False, False, odometers, waves)
         return self._drop(asked, progress=False, draws=False)
 
     def avalanche(
@@ -554,6 +623,80 @@ class Drive(HasPile):
             return 1, lambda _, __, found: _avalanche(at, found, topplings.ctypes.data, topplings.size)
 
         return self._drop(asked, progress=False, draws=is_random)[0], topplings
+
+    def waves(
+        self, site: SupportsIndex | None = None, *, row: SupportsIndex | None = None, column: SupportsIndex | None = None
+    ) -> tuple[np.void, NDArray[np.int64], NDArray[np.bool_]]:
+        """Drops a grain at a site, and returns the waves of its avalanche [1]_.
+
+        In each wave, the site of the drop topples once, and then each other site that has four grains or more, once each; if the
+        site of the drop then has four grains again, another wave follows.
+
+        Parameters
+        ----------
+        site : int, optional
+            The number of the site, row * width + column. Without it, or its row and its column, it is the next random one;
+            with it, no random site is used.
+        row, column : int
+            Instead of `site`, its row and its column, each from 0.
+
+        Returns
+        -------
+        avalanche : numpy.void
+            Its row in `table`, as from `drop`.
+        sizes : numpy.ndarray
+            How many sites topple in each wave; shape (waves,), int64. There are as many waves as the site of the drop topples.
+        waves : numpy.ndarray
+            Which sites topple in each; shape (waves, height, width), bool. The sum over all waves is how often each site
+            topples.
+
+        Raises
+        ------
+        Fault
+            NoSite (25) if the site is outside the grid, or Full (6), as from `drop`.
+        TypeError
+            If the site, or its row and its column, are not integers.
+        RuntimeError
+            As from `drop`.
+
+        See Also
+        --------
+        drop : with ``waves=True``, the sizes of the waves of many drops
+
+        Notes
+        -----
+        The sizes are proved. The sites are found by the definition, in time proportional to the topplings, and compared with
+        the sizes. A drop has at most ``(min(height, width) + 1) // 2`` waves, on a cylinder ``(height + 1) // 2``.
+
+        References
+        ----------
+        .. [1] E. V. Ivashkevich, D. V. Ktitarev and V. B. Priezzhev, "Waves of topplings in an Abelian sandpile", Physica A
+           209 (1994) 347-360.
+
+        Examples
+        --------
+        >>> import sandpile
+        >>> _, sizes, waves = sandpile.Drive([[3, 3, 3], [3, 3, 3], [3, 3, 3]]).waves(4)
+        >>> sizes
+        array([9, 1])
+        >>> waves[1]
+        array([[False, False, False],
+               [False,  True, False],
+               [False, False, False]])
+        """
+        sizes = np.empty(most_waves(self._shape, self._cylinder), np.int64)
+        room, before = _Room(np.empty(1, np.int64)), _NO_HEIGHTS
+        is_random = site is None and row is None and column is None
+
+        def asked() -> _Wanted:
+            nonlocal before
+            room.array[0] = self._next_site() if is_random else site_at(site, row, column, self._shape)
+            before = self.pile
+            return 1, lambda _, __, found: _drop_in_waves(room.at, 1, found, sizes)
+
+        avalanche = self._drop(asked, progress=False, draws=is_random)[0]
+        sizes = sizes[: np.count_nonzero(sizes)]
+        return avalanche, sizes, _waves.masks(before, int(room.array[0]), self._cylinder, sizes)
 
     def _drop(
         self, ask: Callable[[], _Wanted], progress: bool, draws: bool, most: Optional[int] = None

@@ -21,10 +21,10 @@ def frames(run, drops, **how):
     return list(animation.new_saved_frame_seq())
 
 
-def topple(heights, cylinder):
-    """Topples once each site that has four or more grains."""
+def topple(heights, sites, cylinder):
+    """Topples once each site of a mask."""
     height, width = heights.shape
-    for row, column in np.argwhere(heights > 3):
+    for row, column in np.argwhere(sites):
         heights[row, column] -= 4
         for i, j in ((row - 1, column), (row + 1, column), (row, column - 1), (row, column + 1)):
             if 0 <= i < height and (cylinder or 0 <= j < width):
@@ -60,10 +60,27 @@ class Animate(unittest.TestCase):
                 while (heights > 3).any():
                     self.assertEqual(next(steps).tolist(), np.where(heights > 3, 8, heights + 4 * toppled).tolist())
                     toppled |= heights > 3
-                    topple(heights, cylinder)
+                    topple(heights, heights > 3, cylinder)
                 self.assertEqual(heights.tolist(), run.pile.tolist())
                 self.assertEqual(next(steps).tolist(), (heights + 4 * toppled).tolist())
             self.assertIsNone(next(steps, None))
+
+    def test_each_frame_is_before_a_wave(self):
+        for cylinder in (False, True):
+            run = sandpile.Drive(np.full((9, 12), 3), seed=3, cylinder=cylinder)
+            found, most = iter(frames(run, 50, waves=True)), 0
+            for _ in range(50):
+                heights, toppled = run.pile, np.zeros((9, 12), bool)
+                row, sizes, waves = run.waves()
+                heights.flat[row["site"]] += 1
+                for wave in waves:
+                    self.assertEqual(next(found).tolist(), np.where(wave, 8, heights + 4 * toppled).tolist())
+                    toppled |= wave
+                    topple(heights, wave, cylinder)
+                self.assertEqual(next(found).tolist(), (heights + 4 * toppled).tolist())
+                most = max(most, len(sizes))
+            self.assertIsNone(next(found, None))
+            self.assertGreater(most, 2)
 
     @needs_module("PIL")
     def test_it_is_saved_again_and_again(self):
@@ -103,5 +120,6 @@ class Animate(unittest.TestCase):
 
     def test_what_is_refused(self):
         self.assertRaises(TypeError, sandpile.animate, [[3]])
+        self.assertRaisesRegex(TypeError, "not both", sandpile.animate, sandpile.Drive([[3]]), toppling=True, waves=True)
         self.assertRaises(TypeError, sandpile.animate, sandpile.Drive([[3]]), 1.5)
         self.assertRaises(sandpile.Fault, sandpile.animate, sandpile.Drive([[3]]), -1)

@@ -23,9 +23,9 @@ def returned():
     settled, run, (numbers, record) = sandpile.settle(FULL + 1), sandpile.Drive(FULL), shared()
     a, lab = sandpile.recurrent(FULL), sandpile.lab(FULL, drops=5)
     yield from (("settle", settled.pile), ("settle", settled.odometer))
-    for table in (run.drop(1), run.drop_at([7, 7]), run.drop(9000), lab.epochs):
+    for table in (run.drop(1), run.drop_at([7, 7]), run.drop(9000), run.drop(9000, waves=True)[1], lab.epochs):
         yield from ((field, table[field]) for field in table.dtype.names)
-    yield from (("avalanche", run.avalanche(7)[1]), ("Drive", run.pile), ("Drive", run.odometer))
+    yield from (("avalanche", run.avalanche(7)[1]), ("waves", run.waves(7)[1]), ("Drive", run.pile), ("Drive", run.odometer))
     yield from (("burn", sandpile.burn(FULL).order), ("burn", sandpile.burn(FULL - 3).order))
     yield from (("burn", sandpile.burn(FULL).time), ("Tree", a.tree().directions), ("Tree", a.tree().parents))
     yield from (("group", it.pile) for it in (a, sandpile.Recurrent(FULL), sandpile.identity((3, 5)), a + a, -a, 2**70 * a))
