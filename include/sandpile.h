@@ -214,6 +214,15 @@ uint32_t sandpile_drive_new(size_t width, size_t height, bool cylinder, const ui
 uint32_t sandpile_drive_drop(sandpile_drive *drive, const size_t *drops, size_t drops_length, sandpile_avalanche *avalanches,
                              size_t avalanches_length);
 
+/* The same, and writes how many sites topple in each wave of an avalanche: in a wave the site of the drop topples once, and
+   then each other site that this brings to 4, also once. An avalanche has as many waves as its first site has topplings.
+   `sizes` has a row for each drop: the sizes of its waves in order, and then zeros. A row has as many numbers as the greatest
+   distance of a site to the nearest open edge, counted from 1: (min(width, height) + 1) / 2, or (height + 1) / 2 on a
+   cylinder. No drop has more waves. `avalanches_length` is `drops_length`, and `sizes_length` is that times the length of a
+   row. The call needs no memory. EMPTY, LENGTH, NO_SITE, FULL. */
+uint32_t sandpile_drive_waves(sandpile_drive *drive, const size_t *drops, size_t drops_length, sandpile_avalanche *avalanches,
+                              size_t avalanches_length, uint64_t *sizes, size_t sizes_length);
+
 /* Drops a grain at a site. Writes its avalanche, and how often each site topples in it. `topplings_length` is width times
    height. EMPTY, LENGTH, NO_SITE, FULL. */
 uint32_t sandpile_drive_avalanche(sandpile_drive *drive, size_t site, sandpile_avalanche *avalanche, uint64_t *topplings,

@@ -41,6 +41,7 @@ _TAKES: dict[str, tuple[Any, ...]] = {
     "multiple": (*_SIDES, *_ARRAY, ctypes.c_uint64),
     "drive_new": (*_SIDES, *_ARRAY, *_HANDLE),
     "drive_drop": (*_HANDLE, *_ARRAY, *_ARRAY),
+    "drive_waves": (*_HANDLE, *_ARRAY, *_ARRAY, *_ARRAY),
     "drive_avalanche": (*_HANDLE, ctypes.c_size_t, *_PLACE, *_ARRAY),
     "drive_read": (*_HANDLE, *_ARRAY, *_ARRAY, *_PLACE, *_PLACE),
     "drive_site": (*_HANDLE, ctypes.c_size_t, *_PLACE, *_PLACE),

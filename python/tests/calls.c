@@ -244,6 +244,25 @@ static void drive(void) {
     assert(!driven.at);
 }
 
+/* The drops of `drop`, and one that topples nothing. In the first wave of the first drop all sites topple, and in the second
+   one the middle alone. On a cylinder the first wave is the same, and the second one is the middle and the two sites next to
+   it. A row has two numbers. */
+static void waves(void) {
+    const uint64_t start[9] = {3, 3, 3, 3, 3, 3, 3, 3, 3}, open[6] = {9, 1, 1, 0, 0, 0}, joined[2] = {9, 3};
+    const size_t drops[3] = {4, 1, 0};
+    uint64_t sizes[6] = {7, 7, 7, 7, 7, 7}, row[2] = {7, 7};
+    sandpile_avalanche a[3];
+    sandpile_drive driven = {0};
+    assert(sandpile_drive_new(3, 3, false, start, 9, &driven) == 0);
+    assert(sandpile_drive_waves(&driven, drops, 3, a, 3, sizes, 6) == 0 && ARE_EQUAL(sizes, open));
+    assert(is_avalanche(a[0], 4, 10, 9, 2, 12) && is_avalanche(a[1], 1, 1, 1, 0, 1) && is_avalanche(a[2], 0, 0, 0, 0, 0));
+    sandpile_drive_free(&driven);
+    assert(sandpile_drive_new(3, 3, true, start, 9, &driven) == 0);
+    assert(sandpile_drive_waves(&driven, drops, 1, a, 1, row, 2) == 0 && ARE_EQUAL(row, joined));
+    assert(is_avalanche(a[0], 4, 12, 9, 2, 6));
+    sandpile_drive_free(&driven);
+}
+
 /* 3 by 3 of all 3 on a cylinder. The grain in the middle topples all sites. The outer rows then have 2, since each of their
    sites has lost a grain, and the middle row has 3 4 3. Its middle topples again, then the two sites next to it. */
 static void avalanche(void) {
@@ -362,6 +381,7 @@ static void null_arrays(void) {
     assert(sandpile_sites(3, 1, false, 0, 0, 0, NULL, 0) == 0);
     assert(sandpile_drive_new(3, 1, false, heights, 3, &driven) == 0);
     assert(sandpile_drive_drop(&driven, NULL, 0, NULL, 0) == 0);
+    assert(sandpile_drive_waves(&driven, NULL, 0, NULL, 0, NULL, 0) == 0);
     assert(sandpile_drive_read(&driven, NULL, 0, NULL, 0, &topplings, &lost) == 0 && topplings == 0 && lost == 0);
     assert(sandpile_shared_new(3, 1, false, heights, 3, 0, &pass) == 0);
     assert(sandpile_pass_drop(&pass, NULL, 0, &number) == 0);
@@ -416,6 +436,7 @@ int main(void) {
     inverse();
     multiple();
     drive();
+    waves();
     avalanche();
     avalanches();
     site();

@@ -22,7 +22,7 @@
 #include <sys/wait.h>
 #include <unistd.h>
 
-enum { SIDE = 16, SITES = SIDE * SIDE, QUOTA = 200, THREADS = 4 };
+enum { SIDE = 16, SITES = SIDE * SIDE, ROW = SIDE / 2, QUOTA = 200, THREADS = 4 };
 
 #ifndef READS
 #define READS 100000
@@ -296,6 +296,7 @@ static struct outputs {
 
 static uint32_t new_drive(void) { return sandpile_drive_new(SIDE, SIDE, false, all, SITES, &drive); }
 static uint32_t drop_on_drive(void) { return sandpile_drive_drop(&drive, drops, 4, out.rows, 4); }
+static uint32_t waves(void) { return sandpile_drive_waves(&drive, drops, 4, out.rows, 4, out.counts[0], 4 * ROW); }
 static uint32_t avalanche(void) { return sandpile_drive_avalanche(&drive, 3, out.rows, out.counts[0], SITES); }
 static uint32_t read_drive(void) {
     return sandpile_drive_read(&drive, out.counts[0], SITES, out.counts[1], SITES, &out.sums[0], &out.sums[1]);
@@ -356,6 +357,7 @@ static void refuse(void) {
     long live = atomic_load(&blocks);
     EXPECT(refuse_each(new_drive) > 0);
     EXPECT(refuse_each(drop_on_drive) > 0);
+    EXPECT(refuse_each(waves) == 0);
     EXPECT(refuse_each(avalanche) == 0);
     EXPECT(refuse_each(read_drive) == 0);
     EXPECT(refuse_each(read_site) == 0);
@@ -371,7 +373,7 @@ static void refuse(void) {
     sandpile_drive_free(&drive);
     sandpile_pass_free(&pass);
     EXPECT(atomic_load(&blocks) == live && !drive.at && !pass.at && !other.at);
-    printf("refuse: each request of 13 calls refused, nothing changed, no block leaked\n");
+    printf("refuse: each request of 14 calls refused, nothing changed, no block leaked\n");
 }
 
 /* Handles filled and freed */
@@ -404,11 +406,16 @@ static int refused;
 static void misuse_a_drive(void) {
     out.sums[0] = out.sums[1] = 5;
     REFUSED(SANDPILE_EMPTY, drop_on_drive());
+    REFUSED(SANDPILE_EMPTY, waves());
     REFUSED(SANDPILE_EMPTY, sandpile_drive_site(&drive, outside, &out.sums[0], &out.sums[1]));
     OK(new_drive());
     REFUSED(SANDPILE_TAKEN, new_drive());
     REFUSED(SANDPILE_LENGTH, sandpile_drive_drop(&drive, &outside, 1, out.rows, 2));
     REFUSED(SANDPILE_NO_SITE, sandpile_drive_drop(&drive, &outside, 1, out.rows, 1));
+    REFUSED(SANDPILE_LENGTH, sandpile_drive_waves(&drive, &outside, 1, out.rows, 2, out.counts[0], ROW));
+    REFUSED(SANDPILE_LENGTH, sandpile_drive_waves(&drive, &outside, 1, out.rows, 1, out.counts[0], ROW + 1));
+    REFUSED(SANDPILE_LENGTH, sandpile_drive_waves(&drive, &outside, 1, out.rows, 1, out.counts[0], 0));
+    REFUSED(SANDPILE_NO_SITE, sandpile_drive_waves(&drive, &outside, 1, out.rows, 1, out.counts[0], ROW));
     REFUSED(SANDPILE_LENGTH, sandpile_drive_avalanche(&drive, 0, out.rows, out.counts[0], 1));
     REFUSED(SANDPILE_NO_SITE, sandpile_drive_avalanche(&drive, outside, out.rows, out.counts[0], SITES));
     REFUSED(SANDPILE_LENGTH, sandpile_drive_read(&drive, out.counts[0], 1, out.counts[1], SITES,

@@ -70,6 +70,11 @@ static uint32_t drive_new(void) { return sandpile_drive_new(width, height, cylin
 
 static uint32_t drive_drop(void) { return sandpile_drive_drop(&driven, places, DROPS, avalanches, DROPS); }
 
+static uint32_t drive_waves(void) {
+    size_t row = ((cylinder || height < width ? height : width) + 1) / 2;
+    return sandpile_drive_waves(&driven, places, DROPS, avalanches, DROPS, odometer, DROPS * row);
+}
+
 static uint32_t drive_avalanche(void) {
     return sandpile_drive_avalanche(&driven, sites / 2, avalanches, odometer, sites);
 }
@@ -170,6 +175,8 @@ static const struct { const char *name; uint32_t (*make)(void); uint64_t each; u
     {"sandpile_drive_new", drive_new, 16777215, nothing},
     {"sandpile_drive_drop", drive_drop, 3, drive_new},
     {"sandpile_drive_drop", drive_drop, 24, drive_new},
+    {"sandpile_drive_waves", drive_waves, 3, drive_new},
+    {"sandpile_drive_waves", drive_waves, 24, drive_new},
     {"sandpile_drive_avalanche", drive_avalanche, 3, drive_new},
     {"sandpile_drive_avalanche", drive_avalanche, 24, drive_new},
     {"sandpile_drive_read", drive_read, 3, drive_new},

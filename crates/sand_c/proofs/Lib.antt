@@ -12,4 +12,5 @@ pub mod Rows
 pub mod SettledAt
 pub mod Sites
 pub mod Unfit
+pub mod WaveRows
 mod PartsSteps

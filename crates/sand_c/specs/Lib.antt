@@ -11,3 +11,4 @@ pub mod Passing
 pub mod Settling
 pub mod Streams
 pub mod Trees
+pub mod Waves

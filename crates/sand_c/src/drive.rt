@@ -1,18 +1,20 @@
 //! A driven pile that knows how many more grains it takes.
 
-ghost use Rattle.std.specs.Prelude.{◌≡◌, ◌≢◌, ◌+◌, ◌-◌, ◌<◌, ◌≤◌, [], ℕ, length, slice_index, IfOk, IfErr, OnOk, OnErr, Ok, Err, IsOk};
+ghost use Rattle.std.specs.Prelude.{◌≡◌, ◌≢◌, ◌+◌, ◌-◌, ◌<◌, ◌≤◌, [], ℕ, All, length, slice_index, IfOk, IfErr, OnOk, OnErr, Ok, Err, IsOk};
 ghost use Rattle.sand_model.specs.Grid.{sites};
-ghost use Rattle.sand_model.specs.Piles.{height_of};
+ghost use Rattle.sand_model.specs.Piles.{height_of, most_grains};
 ghost use Rattle.sand_settle.specs.Settling.{odometer_of};
 ghost use Rattle.sand_settle.specs.Drops.{grid_of_one_pile, IsAfter};
 ghost use Rattle.sand_c.specs.Arguments.{Fails};
 ghost use Rattle.sand_c.specs.Driving.{HaveDriven, HasDriven, IsReading, IsSiteOf, drops_on_drive, drop_on_drive, entries_of, with_site};
 ghost use Rattle.sand_c.specs.KeptOdometers.{IsOdometer};
+ghost use Rattle.sand_c.specs.Waves.{HaveDrivenInWaves, waves_on_drive};
 
 use crate::SandpileAvalanche;
 use crate::dropping::{are_sites, drop_all};
 use crate::faults::Fault;
 use crate::kept_odometer::{read_odometer, take_topplings};
+use crate::waves::drop_in_rows;
 use sand_model::{GRAIN_LIMIT, Pile};
 use sand_settle::DrivenPile;
 use std::alloc::{AllocError, Global};
@@ -64,6 +66,26 @@ impl Drive {
         self.pile.shape().sites()
     }
 
+    // Whether grains can be dropped at these sites, and there is an avalanche for each.
+    fn may_drop(&self, drops: &[usize], avalanches: usize) -> Result<(), Fault>
+        ensures may { OnOk result (drops_on_drive self.now drops.now avalanches ≡ Ok self.now) }
+        ensures avalanches { OnOk result (avalanches ≡ length drops.now) }
+        ensures sites { OnOk result (All (λ site. site < sites (grid_of_one_pile self.now)) drops.now) }
+        ensures room { OnOk result (self.now.grains + length drops.now ≤ most_grains) }
+        ensures fault { IfErr result (λ e. drops_on_drive self.now drops.now avalanches ≡ Err e) }
+    {
+        if avalanches != drops.len() {
+            return Err(Fault::Length);
+        }
+        if !are_sites(drops, self.sites()) {
+            return Err(Fault::NoSite);
+        }
+        if drops.len() as u64 > self.room {
+            return Err(Fault::Full);
+        }
+        Ok(())
+    }
+
     /// Drops a grain at each site in turn, and writes the avalanches.
     pub(crate) fn drop_each(
         &mut self,
@@ -77,20 +99,38 @@ impl Drive {
         ensures unchanged { OnErr result (self.new ≡ self.old) }
         ensures avalanches { OnErr result (avalanches.new ≡ avalanches.old) }
     {
-        if avalanches.len() != drops.len() {
-            return Err(Fault::Length);
-        }
-        if !are_sites(drops, self.sites()) {
-            return Err(Fault::NoSite);
-        }
-        let count = drops.len() as u64;
-        if count > self.room {
-            return Err(Fault::Full);
-        }
+        self.may_drop(drops, avalanches.len())?;
         let rows = drop_all(alloc, &mut self.pile, drops)?;
-        self.room -= count;
+        self.room -= drops.len() as u64;
         self.is_current = false;
         avalanches.copy_from_slice(rows.as_slice());
+        Ok(())
+    }
+
+    /// The same, and writes a row with the sizes of the waves of each drop.
+    pub(crate) fn drop_in_waves(
+        &mut self,
+        drops: &[usize],
+        avalanches: &mut [SandpileAvalanche],
+        sizes: &mut [u64],
+    ) -> Result<(), Fault>
+        ensures driven { OnOk result (HaveDrivenInWaves self.old drops.now avalanches.new sizes.new self.new) }
+        ensures may { OnOk result
+            (waves_on_drive self.old drops.now (length avalanches.old) (length sizes.old) ≡ Ok self.old) }
+        ensures fault { IfErr result
+            (λ e. waves_on_drive self.old drops.now (length avalanches.old) (length sizes.old) ≡ Err e) }
+        ensures unchanged { OnErr result (self.new ≡ self.old) }
+        ensures avalanches { OnErr result (avalanches.new ≡ avalanches.old) }
+        ensures sizes { OnErr result (sizes.new ≡ sizes.old) }
+    {
+        let most = self.pile.shape().most_to_edge();
+        if drops.len().checked_mul(most) != Some(sizes.len()) {
+            return Err(Fault::Length);
+        }
+        self.may_drop(drops, avalanches.len())?;
+        drop_in_rows(&mut self.pile, drops, avalanches, sizes);
+        self.room -= drops.len() as u64;
+        self.is_current = false;
         Ok(())
     }
 

@@ -5,6 +5,7 @@
 ghost use Rattle.std.specs.Prelude.{◌≡◌, ◌≢◌, IfOk, IfErr, OnOk, IsOk, None, length};
 ghost use Rattle.sand_c.specs.Arguments.{sides_of, Fails, Answers, Returns, pile_of};
 ghost use Rattle.sand_c.specs.Driving.{IsDriveOf, Holds, LeadsTo, HaveDriven, HasDriven, opening_of, driving_of, avalanche_of};
+ghost use Rattle.sand_c.specs.Waves.{HaveDrivenInWaves, waves_of};
 
 use crate::SandpileAvalanche;
 use crate::arguments::{Sides, pile_in, sides_of};
@@ -74,6 +75,33 @@ pub extern "C" fn sandpile_drive_drop(
         return Fault::Empty.number();
     };
     let driven = held.drop_each(alloc, drops, avalanches);
+    drive.put(held);
+    answer(driven)
+}
+
+/// Drops a grain at each site in turn, as `sandpile_drive_drop` does. Also writes a row of numbers for each drop, as many
+/// as the greatest distance of a site to the nearest open edge, counted from 1: the sizes of its waves, and then zeros.
+/// Returns 0, or the first of 26 (Empty), 2 (Length of a slice), 25 (NoSite) and 6 (Full).
+#[tactic(auto, using(crate::proofs::Answered::returned))]
+#[unsafe(no_mangle)]
+pub extern "C" fn sandpile_drive_waves(
+    alloc: Global,
+    drive: &mut SandpileDrive,
+    drops: &[usize],
+    avalanches: &mut [SandpileAvalanche],
+    sizes: &mut [u64],
+) -> u32
+    ensures driven { result ≡ 0
+        → LeadsTo drive.old.held (λ v w. HaveDrivenInWaves v drops.now avalanches.new sizes.new w) drive.new.held }
+    ensures answer { Returns result (waves_of drive.old.held drops.now (length avalanches.old) (length sizes.old)) }
+    ensures drive { result ≢ 0 → drive.new.held ≡ drive.old.held }
+    ensures avalanches { result ≢ 0 → avalanches.new ≡ avalanches.old }
+    ensures sizes { result ≢ 0 → sizes.new ≡ sizes.old }
+{
+    let Some(mut held) = drive.take(alloc) else {
+        return Fault::Empty.number();
+    };
+    let driven = held.drop_in_waves(drops, avalanches, sizes);
     drive.put(held);
     answer(driven)
 }

@@ -26,11 +26,13 @@ mod settling;
 mod streams;
 mod trees;
 mod version;
+mod waves;
 
 pub use burning::sandpile_burn;
 pub use drive_handle::SandpileDrive;
 pub use driving::{
     sandpile_drive_avalanche, sandpile_drive_drop, sandpile_drive_free, sandpile_drive_new,
+    sandpile_drive_waves,
 };
 pub use dropping::sandpile_drop;
 pub use faults::Fault;
