@@ -171,7 +171,8 @@ pub(crate) fn burn_step(
     end
 }
 
-// Spreads the fire from the sites that may burn from the start, step by step, until no other may.
+// Spreads the fire from the sites that may burn from the start, until no other may. It has a loop of its own, since one that
+// stops after each step is slower.
 fn burn_out(lattice: &Lattice, heights: &[u64], unburnt: &mut Vec<u8>, burnt: &mut Vec<usize>)
     requires heights_each { length heights.now ≡ sites lattice.now }
     requires len { length unburnt.old.items ≡ sites lattice.now }
@@ -185,7 +186,9 @@ fn burn_out(lattice: &Lattice, heights: &[u64], unburnt: &mut Vec<u8>, burnt: &m
 {
     let mut head = 0;
     while head < burnt.len() {
-        head = burn_step(lattice, heights, unburnt, burnt, head);
+        let site = burnt[head];
+        spread_fire(lattice, heights, unburnt, burnt, site);
+        head += 1;
     }
 }
 
