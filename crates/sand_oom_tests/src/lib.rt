@@ -34,4 +34,6 @@ mod settling;
 #[cfg(test)]
 mod texts;
 #[cfg(test)]
+mod trees;
+#[cfg(test)]
 mod trying;

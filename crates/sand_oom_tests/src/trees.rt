@@ -1,0 +1,50 @@
+//! Burning times, and spanning trees with their piles.
+
+use crate::group::recurrent;
+use crate::trying::refused;
+use sand_group::burning_times;
+use sand_model::Shape;
+use sand_testing::piles::open_pile;
+use sand_trees::{Tree, TreeFault, pile_of_tree, random_tree, tree_of_pile};
+use std::alloc::Global;
+use std::test::Fail;
+
+// Two sites in a row: the first leads to the second, and that one into the sink. All edges of the first lead below its
+// depth, and three of the second: the pile is 0 1.
+fn tree_of_two(alloc: Global) -> Result<Tree, TreeFault> {
+    Tree::from_directions(
+        alloc,
+        Shape::new(2, 1).map_err(|_| TreeFault::Length)?,
+        &[2, 0],
+    )
+}
+
+#[test]
+fn burning_times_report_out_of_memory(rt: HostRuntime) -> Result<(), Fail> {
+    let pile = open_pile(rt.alloc(), 3, 1, &[0, 1, 1])?;
+    refused!(rt, "burning_times", alloc => burning_times(alloc, &pile), times =>
+        times.as_slice() == [3, 2, 1].as_slice())
+}
+
+#[test]
+fn trees_report_out_of_memory(rt: HostRuntime) -> Result<(), Fail> {
+    refused!(rt, "Tree::from_directions", alloc => tree_of_two(alloc), tree => tree.depths() == [2, 1].as_slice())?;
+    let pile = recurrent(rt.alloc(), [0, 1])?;
+    refused!(rt, "tree_of_pile", alloc => tree_of_pile(alloc, &pile).map_err(TreeFault::Memory), tree =>
+        tree.directions() == [2, 0].as_slice())
+}
+
+#[test]
+fn piles_of_trees_report_out_of_memory(rt: HostRuntime) -> Result<(), Fail> {
+    let tree = tree_of_two(rt.alloc())?;
+    refused!(rt, "pile_of_tree", alloc => pile_of_tree(alloc, &tree).map_err(TreeFault::Memory), pile =>
+        pile.pile().heights() == [0, 1].as_slice())
+}
+
+// The first words of the stream, modulo 4, are 2, 1, 3, 3 and 0: the first walk goes east, back, and into the sink.
+#[test]
+fn random_trees_report_out_of_memory(rt: HostRuntime) -> Result<(), Fail> {
+    let shape = Shape::new(3, 1)?;
+    refused!(rt, "random_tree", alloc => random_tree(alloc, shape, 0, 0).map_err(TreeFault::Memory), tree =>
+        tree.directions() == [3, 3, 0].as_slice())
+}
