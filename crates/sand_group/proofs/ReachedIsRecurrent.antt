@@ -115,15 +115,12 @@ fired_to_recurrent g x p q r c z up last down full is x_is pile_is up_is last_is
     }
 
 pub superstable_from_reached : (g : Grid) (x : ℕ → ℤ) (p q : ℕ → ℕ) (r : Reached) (h t : List ℕ) (s : PileView)
-    → IsReached g q p 3 r → ((i : ℕ) → i < sites g → x i ≡ pos (p i) -ℤ pos (q i)) → h ≡ r.last.pile.heights
-    → length t ≡ length h → ((i : ℕ) → i < length h → get_or t i 0 + get_or h i 0 ≡ 3)
-    → s ≡ record { grid = g; heights = t } → IsSuperstableOf g x s
-superstable_from_reached g x p q r h t s is x_is same long rests made =
-    let all : length h ≡ sites g = ap (λ (ys : List ℕ). length ys) same ∙ is.last.record_of.heights_each in
+    → IsReached g q p 3 r → ((i : ℕ) → i < sites g → x i ≡ pos (p i) -ℤ pos (q i)) → length h ≡ sites g
+    → ((i : ℕ) → get_or h i 0 ≡ height_of r.last.pile i) → length t ≡ length h
+    → ((i : ℕ) → i < length h → get_or t i 0 + get_or h i 0 ≡ 3) → s ≡ record { grid = g; heights = t }
+    → IsSuperstableOf g x s
+superstable_from_reached g x p q r h t s is x_is all same long rests made =
     let represents = reached_represents g q p 3 r is (λ i. pos 3 -ℤ x i) (λ i l. omega (arith, ints, x_is i l)) in
-    let done = superstable_of g x (height_of r.last.pile) (λ i. get_or t i 0) represents (λ i l. omega (
-      arith,
-      rests i (omega arith),
-      ap (λ (ys : List ℕ). get_or ys i 0) same,
-    )) in
+    let done = superstable_of g x (height_of r.last.pile) (λ i. get_or t i 0) represents
+    (λ i l. omega (arith, rests i (omega arith), same i)) in
     rw made (record { grid = refl; len = long ∙ all; superstable = done.0; equivalent = done.1 })

@@ -1,4 +1,4 @@
-use Rattle.std.proofs.Common.{List, ℕ, ◌∙◌, ap, arith, length}
+use Rattle.std.proofs.Common.{List, ℕ, ap, arith, length, get_or}
 use Rattle.std.proofs.lemmas.List.Sums.{sum_by-le}
 use Rattle.sand_model.specs.Integers.{whole}
 use Rattle.sand_model.specs.Piles.{PileView, height_of}
@@ -20,10 +20,23 @@ from_vec-requires-clause-limit c = omega (
 )
 
 found : (c : After-from_vec) → IsSuperstableOf c.args.shape (integer_at c.args.heights.now) c.from_vec.result
-found c = superstable_from_reached c.args.shape (integer_at c.args.heights.now) (height_of c.in_ok-above.above)
+found c =
+    let is = rw c.in_ok-above.ensures.below_grid at c.in_ok-reached.ensures in
+    superstable_from_reached c.args.shape (integer_at c.args.heights.now) (height_of c.in_ok-above.above)
     (height_of c.in_ok-above.below) c.in_ok-reached.reached c.heights.result.now c.in_ok-rests.rests.items
-    c.from_vec.result (rw c.in_ok-above.ensures.below_grid at c.in_ok-reached.ensures) c.in_ok-above.ensures.difference
-    (c.heights.ensures.value ∙ ap (λ (v : PileView). v.heights) c.pile.ensures.value) c.in_ok-rests.ensures.len c.in_ok-rests.ensures.rests c.from_vec.ensures
+    c.from_vec.result is c.in_ok-above.ensures.difference
+    (omega (
+      arith,
+      ap (λ (xs : List ℕ). length xs) c.heights.ensures.value,
+      ap (λ (v : PileView). length v.heights) c.pile.ensures.value,
+      is.last.record_of.heights_each,
+    ))
+    (λ i. omega (
+      arith,
+      ap (λ (xs : List ℕ). get_or xs i 0) c.heights.ensures.value,
+      ap (λ (v : PileView). height_of v i) c.pile.ensures.value,
+    ))
+    c.in_ok-rests.ensures.len c.in_ok-rests.ensures.rests c.from_vec.ensures
 
 pub returns-clause-superstable : goal.returns-clause-superstable
 returns-clause-superstable c = found (goal.at.returns-clause-superstable c).After-from_vec
