@@ -1,5 +1,6 @@
 pub mod Answered
 pub mod Chunks
+pub mod ClassSteps
 pub mod Found
 pub mod HandleSteps
 pub mod Joins

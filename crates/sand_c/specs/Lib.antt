@@ -1,5 +1,6 @@
 pub mod Arguments
 pub mod Burning
+pub mod Classes
 pub mod Driving
 pub mod Dropping
 pub mod Faults

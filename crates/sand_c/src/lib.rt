@@ -8,6 +8,7 @@
 
 mod arguments;
 mod burning;
+mod classes;
 mod drive;
 mod drive_handle;
 mod driving;
@@ -29,6 +30,7 @@ mod version;
 mod waves;
 
 pub use burning::sandpile_burn;
+pub use classes::{sandpile_class, sandpile_superstable};
 pub use drive_handle::SandpileDrive;
 pub use driving::{
     sandpile_drive_avalanche, sandpile_drive_drop, sandpile_drive_free, sandpile_drive_new,
