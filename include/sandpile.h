@@ -151,6 +151,21 @@ uint32_t sandpile_inverse(size_t width, size_t height, bool cylinder, uint64_t *
    height. SIDE, NARROW, LENGTH, TOO_MANY_GRAINS; then UNSTABLE, NOT_RECURRENT or MEMORY. */
 uint32_t sandpile_multiple(size_t width, size_t height, bool cylinder, uint64_t *heights, size_t heights_length, uint64_t n);
 
+/* The two calls below take integer heights, which may be negative; the absolute values sum to at most 1,099,511,627,775. Heights
+   are equivalent if topplings, legal or not, and topplings taken back lead from one to the other. */
+
+/* Replaces integer heights with the one recurrent pile equivalent to them. `firing` becomes the firing vector: how often each
+   site topples on the way, less than 0 where topplings are taken back. Only one vector leads there, and for a recurrent pile it
+   is 0. `heights_length` is width times height; `firing_length` is the same, or 0 to leave the vector out. SIDE, NARROW, LENGTH,
+   TOO_MANY_GRAINS, MEMORY. */
+uint32_t sandpile_class(size_t width, size_t height, bool cylinder, int64_t *heights, size_t heights_length, int64_t *firing,
+                        size_t firing_length);
+
+/* Replaces integer heights with the one superstable configuration (G-parking function) equivalent to them: no height is
+   negative, and if the sites of any set topple once each, at least one of them becomes negative. Superstable heights, and no
+   others, stay as they are. `heights_length` is width times height. SIDE, NARROW, LENGTH, TOO_MANY_GRAINS, MEMORY. */
+uint32_t sandpile_superstable(size_t width, size_t height, bool cylinder, int64_t *heights, size_t heights_length);
+
 /* Writes the step in which each site of a stable pile burns, from 1 on, if in each step all sites burn that can; 0 for each site
    that never burns. `heights_length` and `times_length` are width times height. SIDE, NARROW, LENGTH, TOO_MANY_GRAINS; then
    UNSTABLE or MEMORY. */

@@ -39,6 +39,8 @@ _TAKES: dict[str, tuple[Any, ...]] = {
     "add": (*_SIDES, *_ARRAY, *_ARRAY),
     "inverse": (*_SIDES, *_ARRAY),
     "multiple": (*_SIDES, *_ARRAY, ctypes.c_uint64),
+    "class": (*_SIDES, *_ARRAY, *_ARRAY),
+    "superstable": (*_SIDES, *_ARRAY),
     "drive_new": (*_SIDES, *_ARRAY, *_HANDLE),
     "drive_drop": (*_HANDLE, *_ARRAY, *_ARRAY),
     "drive_waves": (*_HANDLE, *_ARRAY, *_ARRAY, *_ARRAY),

@@ -225,6 +225,28 @@ static void multiple(void) {
     }
 }
 
+/* -1 0 0 needs a toppling of each site taken back: with 3 2 3, or on a cylinder 2 2 2, it is recurrent. */
+static void class(void) {
+    const int64_t equivalent[2][3] = {{2, 2, 3}, {1, 2, 2}}, back[3] = {-1, -1, -1};
+    for (int cylinder = 0; cylinder < 2; cylinder++) {
+        int64_t heights[3] = {-1, 0, 0}, same[3] = {-1, 0, 0}, firing[3] = {7, 7, 7};
+        assert(sandpile_class(3, 1, cylinder, heights, 3, firing, 3) == 0);
+        assert(ARE_EQUAL(heights, equivalent[cylinder]) && ARE_EQUAL(firing, back));
+        assert(sandpile_class(3, 1, cylinder, same, 3, NULL, 0) == 0 && ARE_EQUAL(same, heights));
+        assert(sandpile_class(3, 1, cylinder, same, 3, firing, 2) == SANDPILE_LENGTH && ARE_EQUAL(same, heights));
+    }
+}
+
+/* 3 2 3 is a toppling of each site, which leaves 0 0 0. And 3 less -1 0 0 is 4 3 3: from the first site to the last each topples
+   once, and 1 1 0 is left; it burns, so 2 2 3 is superstable. */
+static void superstable(void) {
+    int64_t heights[2][3] = {{3, 2, 3}, {-1, 0, 0}};
+    const int64_t equivalent[2][3] = {{0, 0, 0}, {2, 2, 3}};
+    for (int i = 0; i < 2; i++) {
+        assert(sandpile_superstable(3, 1, false, heights[i], 3) == 0 && ARE_EQUAL(heights[i], equivalent[i]));
+    }
+}
+
 /* 7 2 3 above 2 3 3 and 3 3 3: the first site topples, and all have 3. Then the drops and avalanches are those of `drop`. */
 static void drive(void) {
     const uint64_t start[9] = {7, 2, 3, 2, 3, 3, 3, 3, 3}, full[9] = {3, 3, 3, 3, 3, 3, 3, 3, 3};
@@ -411,6 +433,8 @@ static void null_piles(void) {
     assert(sandpile_add(3, 1, false, NULL, 0, NULL, 0) == SANDPILE_LENGTH);
     assert(sandpile_inverse(3, 1, false, NULL, 0) == SANDPILE_LENGTH);
     assert(sandpile_multiple(3, 1, false, NULL, 0, 2) == SANDPILE_LENGTH);
+    assert(sandpile_class(3, 1, false, NULL, 0, NULL, 0) == SANDPILE_LENGTH);
+    assert(sandpile_superstable(3, 1, false, NULL, 0) == SANDPILE_LENGTH);
     assert(sandpile_drive_new(3, 1, false, NULL, 0, &driven) == SANDPILE_LENGTH && !driven.at);
     assert(sandpile_drive_new(3, 1, false, heights, 3, &driven) == 0);
     assert(sandpile_drive_avalanche(&driven, 0, &a, NULL, 0) == SANDPILE_LENGTH);
@@ -435,6 +459,8 @@ int main(void) {
     add();
     inverse();
     multiple();
+    class();
+    superstable();
     drive();
     waves();
     avalanche();

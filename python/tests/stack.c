@@ -15,6 +15,7 @@ enum { STACK = 24 * 1024, PAINT = 0xa5, SIDE = 256, SITES = SIDE * SIDE, DROPS =
 static size_t width, height, sites;
 static bool cylinder;
 static uint64_t heights[SITES], others[SITES], odometer[SITES];
+static int64_t integers[SITES], firing[SITES];
 static size_t places[SITES];
 static uint32_t times[SITES];
 static uint8_t directions[SITES];
@@ -65,6 +66,10 @@ static uint32_t add(void) { return sandpile_add(width, height, cylinder, heights
 static uint32_t inverse(void) { return sandpile_inverse(width, height, cylinder, heights, sites); }
 
 static uint32_t multiple(void) { return sandpile_multiple(width, height, cylinder, heights, sites, UINT64_MAX); }
+
+static uint32_t class(void) { return sandpile_class(width, height, cylinder, integers, sites, firing, sites); }
+
+static uint32_t superstable(void) { return sandpile_superstable(width, height, cylinder, integers, sites); }
 
 static uint32_t drive_new(void) { return sandpile_drive_new(width, height, cylinder, heights, sites, &driven); }
 
@@ -147,7 +152,8 @@ static uint32_t share_in_two(void) {
         || sandpile_pass_drop(&lower, places, DROPS / 2, &first);
 }
 
-/* A call, the height of each site of the pile that it is given, and what fills the handles before. */
+/* A call, the height of each site of the pile that it is given, and what fills the handles before. Of integer heights, every
+   second one is below 0. */
 static const struct { const char *name; uint32_t (*make)(void); uint64_t each; uint32_t (*fill)(void); } calls[] = {
     {"no call", nothing, 0, nothing},
     {"sandpile_version", version, 0, nothing},
@@ -171,6 +177,10 @@ static const struct { const char *name; uint32_t (*make)(void); uint64_t each; u
     {"sandpile_add", add, 3, nothing},
     {"sandpile_inverse", inverse, 3, nothing},
     {"sandpile_multiple", multiple, 3, nothing},
+    {"sandpile_class", class, 4, nothing},
+    {"sandpile_class", class, 16777215, nothing},
+    {"sandpile_superstable", superstable, 4, nothing},
+    {"sandpile_superstable", superstable, 16777215, nothing},
     {"sandpile_drive_new", drive_new, 4, nothing},
     {"sandpile_drive_new", drive_new, 16777215, nothing},
     {"sandpile_drive_drop", drive_drop, 3, drive_new},
@@ -243,6 +253,7 @@ static size_t most_of(size_t call) {
         cylinder = i % 2;
         for (size_t at = 0; at < SITES; at++) {
             heights[at] = calls[call].each;
+            integers[at] = at % 2 ? -(int64_t)calls[call].each : (int64_t)calls[call].each;
             others[at] = 3;
             places[at] = at % sites;
         }
