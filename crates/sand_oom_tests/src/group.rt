@@ -1,7 +1,10 @@
 //! The burning test and the group of recurrent piles.
 
 use crate::trying::refused;
-use sand_group::{Burned, Recurrent, act, add, burn, equivalent_recurrent, identity, inverse};
+use sand_group::{
+    Burned, Fired, Recurrent, act, add, burn, equivalent_recurrent, identity, inverse,
+    recurrent_by_firing, superstable,
+};
 use sand_model::Shape;
 use sand_testing::piles::open_pile;
 use std::alloc::Global;
@@ -17,6 +20,10 @@ pub fn recurrent(alloc: Global, heights: [u64; 2]) -> Result<Recurrent, Fail> {
 
 fn has_heights(recurrent: &Recurrent, heights: &[u64]) -> bool {
     recurrent.pile().heights() == heights
+}
+
+fn is_fired(fired: &Fired, heights: &[u64], firing: &[i64]) -> bool {
+    has_heights(&fired.recurrent, heights) && fired.firing.as_slice() == firing
 }
 
 // The burning order of three sites in a row with a grain at each end: the middle burns after both ends.
@@ -68,4 +75,15 @@ fn operations_report_out_of_memory(rt: HostRuntime) -> Result<(), Fail> {
     let pile = recurrent(rt.alloc(), [3, 3])?;
     assert!(rt; pile.pile().shape().sites() > 0);
     refused!(rt, "act", alloc => act(alloc, &pile, 0), pile => has_heights(&pile, &[1, 0]))
+}
+
+// With a toppling of each of two sites taken back, -1 0 is 2 3, which is recurrent. And 3 less -1 0 is 4 3, where each
+// site topples once, to 1 0.
+#[test]
+fn classes_report_out_of_memory(rt: HostRuntime) -> Result<(), Fail> {
+    let shape = Shape::new(2, 1)?;
+    refused!(rt, "recurrent_by_firing", alloc => recurrent_by_firing(alloc, shape, &[-1, 0]), fired =>
+        is_fired(&fired, &[2, 3], &[-1, -1]))?;
+    refused!(rt, "superstable", alloc => superstable(alloc, shape, &[-1, 0]), pile =>
+        pile.heights() == [2, 3].as_slice())
 }
