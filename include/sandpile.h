@@ -162,8 +162,8 @@ uint32_t sandpile_class(size_t width, size_t height, bool cylinder, int64_t *hei
                         size_t firing_length);
 
 /* Replaces integer heights with the one superstable configuration (G-parking function) equivalent to them: no height is
-   negative, and if the sites of any set topple once each, at least one of them becomes negative. Superstable heights, and no
-   others, stay as they are. `heights_length` is width times height. SIDE, NARROW, LENGTH, TOO_MANY_GRAINS, MEMORY. */
+   negative, and if the sites of any non-empty set topple once each, at least one of them becomes negative. Superstable heights,
+   and no others, stay as they are. `heights_length` is width times height. SIDE, NARROW, LENGTH, TOO_MANY_GRAINS, MEMORY. */
 uint32_t sandpile_superstable(size_t width, size_t height, bool cylinder, int64_t *heights, size_t heights_length);
 
 /* Writes the step in which each site of a stable pile burns, from 1 on, if in each step all sites burn that can; 0 for each site
