@@ -26,7 +26,6 @@ mod density;
 mod forecast;
 mod levels;
 mod modes;
-mod neighbours;
 mod places;
 mod product;
 mod repair;
