@@ -21,6 +21,7 @@
 //! for zipped iterators, and the compiled loop is the same.
 #![tactic(auto)]
 
+mod cells;
 mod claim;
 mod density;
 mod forecast;

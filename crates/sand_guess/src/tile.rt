@@ -1,9 +1,9 @@
 //! A tile: 8 rows of 16 sites, a lane for each row and one bit of it for each site.
 //!
 //! In a visit each site of a tile topples that may, and each that this brings to 4, once at most. A front topples at
-//! once: it is moved four ways and added to the heights bit by bit, as an adder does it, and the carries are due next. A
-//! site with 3 grains next to one that topples must topple, too, and so on: two steps of this flood join each front, so
-//! that a visit has fewer rounds (docs/SETTLING.md, "Drops").
+//! once: it is moved four ways and added to the heights bit by bit, as an adder does it, and the carries are due next.
+//! A site with 3 grains next to one that topples must topple, too, and so on: two steps of this flood join each front,
+//! so that a visit has fewer rounds (docs/SETTLING.md, "Drops").
 
 use std::simd::prelude::*;
 
@@ -118,7 +118,8 @@ impl Tile {
         [first, second]
     }
 
-    /// Topples what may topple, once each, and returns it. It is a call of its own, so that the registers hold the tile.
+    /// Topples what may topple, once each, and returns it. It is a call of its own, so that the registers hold the
+    /// tile.
     #[inline(never)]
     pub(crate) fn visit(&mut self) -> u16x8 {
         let mut tile = *self;

@@ -3,17 +3,17 @@
 //! A tile waits in a queue while some of its sites may topple. A visit topples them, and then the grains that leave the
 //! tile are added to those around it.
 //!
-//! **A fire is a wave.** First all topples once that is not marked: the sink, and sites that cannot be taken back. Then a
-//! marked site burns if and only if it may topple, and no site does so twice. Once all but the sites of a set have
-//! toppled, the heights are those after taking back a toppling of each site of the set. So a fire leaves the heights that
-//! the next one begins with.
+//! **A fire is a wave.** First all topples once that is not marked: the sink, and sites that cannot be taken back. Then
+//! a marked site burns if and only if it may topple, and no site does so twice. Once all but the sites of a set have
+//! toppled, the heights are those after taking back a toppling of each site of the set. So a fire leaves the heights
+//! that the next one begins with.
 
 ghost use Rattle.std.specs.Prelude.{◌≤◌, ◌<◌};
 
+use crate::cells::{add_where, marks_of, put_where, tile_of, untopple};
 use crate::density::numbers_of;
 use crate::places::{Place, pitch_of, places_of};
-use crate::rows::{run, run_mut};
-use crate::tile::{COLUMNS, LEVEL, ROUNDS, ROWS, Tile, is_any, none, sent_north, sent_south};
+use crate::tile::{LEVEL, ROUNDS, Tile, is_any, none, sent_north, sent_south};
 use sand_model::Shape;
 use std::alloc::{AllocError, Global};
 use std::mem;
@@ -40,7 +40,7 @@ pub(crate) fn has_room(height: i64) -> bool {
 /// The tiles that wait for a visit, each of them once: first in, first out.
 #[derive(Drop)]
 struct Queue {
-    /// A ring.
+    /// A ring of `ROOM` places.
     slots: Vec<usize>,
     head: usize,
     tail: usize,
@@ -96,51 +96,6 @@ pub(crate) struct Tiles {
     turn: u32,
 }
 
-// The columns whose heights have this bit.
-#[inline(always)]
-fn bits_of(heights: &[i64], plane: u32) -> u16 {
-    let mut bits = 0u16;
-    for x in 0..heights.len().min(COLUMNS) {
-        let number = heights[x].wrapping_add(LEVEL).cast_unsigned();
-        let is_set = number.wrapping_shr(plane) & 1 != 0;
-        bits |= u16::from(is_set) << x;
-    }
-    bits
-}
-
-// The columns with counts above the least.
-#[inline(always)]
-fn above(counts: &[i64], least: i64) -> u16 {
-    let mut bits = 0u16;
-    for x in 0..counts.len().min(COLUMNS) {
-        bits |= u16::from(counts[x] > least) << x;
-    }
-    bits
-}
-
-// Adds a number at the columns of a set.
-#[inline(always)]
-fn add_bits(sums: &mut [i64], bits: u16, number: i64) {
-    for x in 0..sums.len().min(COLUMNS) {
-        let is_in = 0i64.wrapping_sub(i64::from(bits >> x & 1));
-        sums[x] = sums[x].wrapping_add(number & is_in);
-    }
-}
-
-// Writes the turn of the columns of a set.
-fn put_turn(turns: &mut [u32], bits: u16, turn: u32) {
-    let mut rest = bits;
-    for _ in 0..COLUMNS {
-        if rest == 0 {
-            break;
-        }
-        if let Some(to) = turns.get_mut(rest.trailing_zeros() as usize) {
-            *to = turn;
-        }
-        rest &= rest.wrapping_sub(1);
-    }
-}
-
 // Adds a set to some planes of numbers, and returns what is carried out of the last.
 #[inline(always)]
 fn add_set(planes: &mut [u16x8; PLANES], from: usize, to: usize, set: u16x8) -> u16x8 {
@@ -159,57 +114,6 @@ fn count_up(counts: &mut [u16x8; PLANES], set: u16x8) {
     let carry = add_set(counts, 0, FEW_PLANES, set);
     if is_any(carry) {
         add_set(counts, FEW_PLANES, PLANES, carry);
-    }
-}
-
-// A tile with the heights of its sites.
-fn tile_of(place: &Place, heights: &[i64]) -> Tile {
-    let mut planes = [[0u16; ROWS]; 4];
-    for row in 0..ROWS {
-        let cells = place.row(heights, row);
-        for plane in 0..4 {
-            planes[plane][row] = bits_of(cells, plane as u32);
-        }
-    }
-    let [low, high, four, due] = planes;
-    Tile {
-        low: u16x8::from_array(low),
-        high: u16x8::from_array(high),
-        four: u16x8::from_array(four),
-        due: u16x8::from_array(due),
-        sites: place.sites,
-    }
-}
-
-// The sites of a tile with counts above the least.
-fn marks_of(place: &Place, counts: &[i64], least: i64) -> u16x8 {
-    let mut rows = [0u16; ROWS];
-    for row in 0..ROWS {
-        rows[row] = above(place.row(counts, row), least);
-    }
-    u16x8::from_array(rows)
-}
-
-// Takes back a toppling of each site of a set, and returns those of which none can be taken back any more.
-fn untopple(place: &Place, counts: &mut [i64], set: u16x8, least: i64) -> u16x8 {
-    let mut rows = set.to_array();
-    for row in 0..ROWS {
-        if rows[row] != 0 {
-            let cells = place.row_mut(counts, row);
-            add_bits(cells, rows[row], -1);
-            rows[row] &= !above(cells, least);
-        }
-    }
-    u16x8::from_array(rows)
-}
-
-// Adds a number at the sites of a set of places of a tile.
-fn add_where(place: &Place, sums: &mut [i64], set: u16x8, number: i64) {
-    let rows = set.to_array();
-    for row in 0..ROWS {
-        if rows[row] != 0 {
-            add_bits(place.row_mut(sums, row), rows[row], number);
-        }
     }
 }
 
@@ -294,11 +198,8 @@ impl Tiles {
     // Writes the next turn, of a set of places.
     fn put_turns(&mut self, k: usize, set: u16x8) {
         self.turn = self.turn.wrapping_add(1);
-        let rows = set.to_array();
         if let Some(place) = self.places.get(k) {
-            for row in 0..ROWS {
-                put_turn(place.row_mut(&mut self.turns, row), rows[row], self.turn);
-            }
+            put_where(place, &mut self.turns, set, self.turn);
         }
     }
 
@@ -399,16 +300,12 @@ impl Tiles {
         }
     }
 
-    // Finds the marked sites that did not burn, and returns whether there are any. What burns topples once, so the first
-    // plane of the counts has all that did.
+    // Finds the marked sites that did not burn, and returns whether there are any. What burns topples once, so the
+    // first plane of the counts has all that did.
     fn end_fire(&mut self) -> bool {
         let mut is_left = false;
-        for k in 0..self
-            .unburnt
-            .len()
-            .min(self.marks.len())
-            .min(self.counts.len())
-        {
+        let n = self.unburnt.len().min(self.marks.len());
+        for k in 0..n.min(self.counts.len()) {
             let [burnt, ..] = self.counts[k];
             self.counts[k] = [none(); PLANES];
             self.unburnt[k] = self.marks[k] & !burnt;
