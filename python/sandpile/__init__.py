@@ -51,7 +51,7 @@ from .waves import WAVE
 
 __version__ = VERSION
 __all__ = [
-    "AVALANCHE", "EPOCH", "REPLICA", "WAVE", "Burned", "Drive", "Fault", "Part", "Record", "Recurrent", "Replicas", "Run", "Settled",
-    "SharedPile", "Tree", "animate", "burn", "identity", "is_superstable", "lab", "random_recurrent", "recurrent", "replicas", "settle",
-    "show", "superstable",
+    "AVALANCHE", "EPOCH", "REPLICA", "WAVE", "Burned", "Drive", "Fault", "Part", "Record", "Recurrent", "Replicas", "Run",
+    "Settled", "SharedPile", "Tree", "animate", "burn", "identity", "is_superstable", "lab", "random_recurrent", "recurrent",
+    "replicas", "settle", "show", "superstable",
 ]

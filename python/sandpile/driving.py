@@ -344,9 +344,9 @@ class Drive(HasPile):
         topplings : numpy.ndarray
             Only with `odometers`: how often each site topples in each avalanche; shape (n, height, width), int64.
         sizes : numpy.ndarray
-            Only with `waves`: a structured array with a row for each wave: the `number` of its drop, which `wave` of the drop it
-            is, from 0, and its `size`, the sites that topple in it, once each. There are as many waves as the site of the drop
-            topples, and the sizes of all waves of a drop sum to the size in `table`.
+            Only with `waves`: a structured array with a row for each wave: the `number` of its drop, which `wave` of the drop
+            it is, from 0, and its `size`, the sites that topple in it, once each. There are as many waves as the site of the
+            drop topples, and the sizes of all waves of a drop sum to the size in `table`.
 
         Raises
         ------
@@ -358,6 +358,10 @@ class Drive(HasPile):
             If `n` is not an integer, or both `odometers` and `waves` are asked for.
         RuntimeError
             If another call is dropping grains on this run, in another thread.
+
+        See Also
+        --------
+        Drive.waves : one drop, and which sites topple in each wave of its avalanche
 
         References
         ----------
@@ -629,8 +633,8 @@ class Drive(HasPile):
     ) -> tuple[np.void, NDArray[np.int64], NDArray[np.bool_]]:
         """Drops a grain at a site, and returns the waves of its avalanche [1]_.
 
-        In each wave, the site of the drop topples once, and then each other site that has four grains or more, once each; if the
-        site of the drop then has four grains again, another wave follows.
+        In each wave, the site of the drop topples once, and then each other site that has four grains or more, once each; if
+        the site of the drop then has four grains again, another wave follows.
 
         Parameters
         ----------
@@ -661,7 +665,7 @@ class Drive(HasPile):
 
         See Also
         --------
-        drop : with ``waves=True``, the sizes of the waves of many drops
+        Drive.drop : with ``waves=True``, the sizes of the waves of many drops
 
         Notes
         -----

@@ -217,8 +217,8 @@ class Recurrent(HasPile):
         Parameters
         ----------
         directions : Tree, or array_like of int
-            The direction of the edge of each site towards the sink, shape (height, width): 0 north, 1 west, 2 east, 3 south. An edge
-            that leads out of the grid leads to the sink.
+            The direction of the edge of each site towards the sink, shape (height, width): 0 north, 1 west, 2 east, 3 south.
+            An edge that leads out of the grid leads to the sink.
         cylinder : bool, optional
             Whether the first and the last column are neighbours. By default as in `directions` if that is a tree, else False.
 
@@ -231,6 +231,11 @@ class Recurrent(HasPile):
             If `directions` is not two-dimensional; this is also a `TypeError`.
         TypeError
             If the directions are not integers.
+
+        See Also
+        --------
+        Recurrent.tree : the bijection, and the way back
+        random_recurrent : the element of a random spanning tree
 
         Examples
         --------
@@ -449,9 +454,9 @@ def recurrent(pile: ArrayLike, cylinder: bool | None = None, firing: bool = Fals
     element : Recurrent
         The recurrent pile, or a stack of them.
     vector : numpy.ndarray
-        Only with `firing`: how often each site topples to get from the pile to the recurrent one, and if this is negative, how often
-        backward; the shape of `pile`, int64. With the toppling matrix L, the recurrent pile is the given one minus L times
-        this. No other vector has this property.
+        Only with `firing`: how often each site topples to get from the pile to the recurrent one, and if this is negative, how
+        often backward; the shape of `pile`, int64. With the toppling matrix L, the recurrent pile is the given one minus L
+        times this. No other vector has this property.
 
     Raises
     ------

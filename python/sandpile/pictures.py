@@ -35,8 +35,8 @@ def show(pile: ArrayLike | Pictured, ax: Axes | None = None) -> Axes:
 
     Heights from 0 to 3 have one colour each. If there are other values, colours go from 0 to the greatest value, or from
     the least one if that is negative, and a colour bar shows them. Sites that are True in a mask are red, and so are those
-    that are masked or not a number, and sites of a `Burned` that never burn. A tree is drawn as a maze, with a light square for each
-    site and each edge.
+    that are masked or not a number, and sites of a `Burned` that never burn. A tree is drawn as a maze, with a light square for
+    each site and each edge.
 
     Parameters
     ----------

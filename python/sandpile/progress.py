@@ -12,7 +12,7 @@ from typing import Any
 
 
 class Bar:
-    """Shows how many of `total` drops, or other units, are done: with tqdm if it is installed, else on a line that is overwritten.
+    """Shows how many of `total` drops or replicas are done: with tqdm if it is installed, else on a line that is overwritten.
 
     No failure to show them ends the call: if tqdm fails, the line is written, and if that fails, nothing.
     """

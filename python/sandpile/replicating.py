@@ -14,7 +14,8 @@ from collections import deque
 from concurrent.futures import CancelledError, Future, ThreadPoolExecutor
 from dataclasses import dataclass
 from typing import (
-    Any, Callable, Deque, Generator, Iterable, Iterator, Optional, Sequence, Sized, SupportsIndex, Tuple, TypeVar, Union, cast, overload,
+    Any, Callable, Deque, Generator, Iterable, Iterator, Optional, Sequence, Sized, SupportsIndex, Tuple, TypeVar, Union, cast,
+    overload,
 )
 
 import numpy as np

@@ -1,8 +1,8 @@
 """Random recurrent piles, each exactly as likely as any other. That is the stationary law of a driven pile (Dhar 1990).
 
 The library draws a spanning tree, each as likely as any other, by the walks of Wilson (1996): from each site that is not yet in
-the tree, a walk with random steps goes on until it meets the tree, and without its loops it joins the tree. The pile is that of the
-tree, by the burning bijection (Majumdar and Dhar 1992). The steps are two bits each of the 32-bit words of ChaCha8.
+the tree, a walk with random steps goes on until it meets the tree, and without its loops it joins the tree. The pile is that of
+the tree, by the burning bijection (Majumdar and Dhar 1992). The steps are read from the words of ChaCha8.
 """
 
 from __future__ import annotations
@@ -50,9 +50,9 @@ def random_recurrent(
 
     Notes
     -----
-    The pile is that of a random spanning tree [2]_ by Wilson's algorithm [3]_. The walks that make the tree end almost surely; one
-    of more than 2**40 steps, which nobody will meet, is ended by steps to the north. In C,
-    ``sandpile_random`` makes the same pile of the two words ``numpy.random.SeedSequence(seed).generate_state(2, numpy.uint64)``.
+    The pile is that of a random spanning tree [2]_ by Wilson's algorithm [3]_. Its walks end almost surely; one of more than
+    2**40 steps, which nobody will meet, is ended by steps to the north. In C, `sandpile_random` makes the same pile of the
+    numbers ``numpy.random.SeedSequence(seed).generate_state(2, numpy.uint64)``, as its seed and its stream.
 
     References
     ----------

@@ -44,9 +44,9 @@ def superstable(pile: ArrayLike, cylinder: bool | None = None) -> Heights:
 
     Notes
     -----
-    A pile without negative heights is superstable if no nonempty set of sites can topple together, each site of it once, without
-    a negative height afterwards [1]_. Each pile is equivalent to exactly one, and a pile s is superstable if and only if
-    3 - s is recurrent [2]_.
+    A pile without negative heights is superstable if no nonempty set of sites can topple together, each site of it once,
+    without a negative height afterwards [1]_. Each pile is equivalent to exactly one, and a pile s is superstable if and only
+    if 3 - s is recurrent [2]_.
 
     References
     ----------

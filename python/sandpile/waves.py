@@ -1,8 +1,8 @@
 """Waves of topplings (Ivashkevich, Ktitarev and Priezzhev 1994): how an avalanche topples, if the site of the drop topples as
 late as it can.
 
-In a wave, the site of the drop topples once, and then each other site that has four grains or more, once each. If the site of the
-drop then has four grains again, another wave follows. An avalanche topples each site as often as there are waves with it.
+In a wave, the site of the drop topples once, and then each other site that has four grains or more, once each. If the site of
+the drop then has four grains again, another wave follows. An avalanche topples each site as often as there are waves with it.
 """
 
 from __future__ import annotations
@@ -56,8 +56,8 @@ class Gathered:
 
 
 def masks(pile: Heights, site: int, cylinder: bool, sizes: NDArray[np.int64]) -> NDArray[np.bool_]:
-    """Which sites topple in each wave of a drop on a stable pile, by the definition; shape (waves, height, width). Their numbers
-    must be those that the library has found."""
+    """Which sites topple in each wave of a drop on a stable pile, by the definition; shape (waves, height, width). Their
+    numbers must be those that the library has found."""
     sides, heights = neighbours(pile.shape, cylinder), np.append(pile, 0)  # the sink is last
     heights[site] += 1
     topples = np.zeros((sizes.size, heights.size), bool)

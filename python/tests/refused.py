@@ -70,6 +70,13 @@ try_call("recurrent", lambda: sandpile.recurrent(pile))
 try_call("add", lambda: a + a)
 try_call("inverse", lambda: -a)
 try_call("multiple", lambda: 5 * a)
+tree = a.tree()
+try_call("burning times", lambda: sandpile.burn(a).time)
+try_call("tree", a.tree)
+try_call("pile of a tree", lambda: sandpile.Recurrent.from_tree(tree))
+try_call("random", lambda: sandpile.random_recurrent((9, 7), seed=1))
+try_call("class", lambda: sandpile.recurrent(pile - 4, firing=True))
+try_call("superstable", lambda: sandpile.superstable(pile))
 # A site that topples: a stable pile settles without memory.
 full = int(np.argmax(a.pile))
 try_call("act", lambda: a.act(full))
@@ -81,6 +88,7 @@ def state():
 
 # The first drop that succeeds ends the test, so the run does not change before.
 try_call("drop", lambda: run.drop_at([0, 1, 2]), state)
+try_call("waves", lambda: run.drop_at([0, 1, 2], waves=True), state)
 run.save("run")
 try_call("load", lambda: sandpile.Drive.load("run"))
 try_call("copy", lambda: copy.copy(run), state)

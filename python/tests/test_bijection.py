@@ -46,8 +46,9 @@ def depth(directions, to, site):
 
 class Bijection(unittest.TestCase):
     def test_by_hand(self):
-        # The corners burn first, each with two edges to the sink, and then the sides: above a side is the sink, burnt two steps before,
-        # so its edge leads to a corner. The middle is last. No site has a grain more than it needs, so all edges are the first ones.
+        # The corners burn first, each with two edges to the sink, and then the sides: the sink beside them burnt two steps
+        # before, so their edges lead to corners. The middle is last. No site has a grain more than it needs, so all edges are
+        # the first ones.
         a = sandpile.Recurrent([[2, 1, 2], [1, 0, 1], [2, 1, 2]])
         self.assertEqual(a.tree().directions.tolist(), [[0, 1, 0], [0, 0, 0], [1, 1, 2]])
 
@@ -127,7 +128,7 @@ class Trees(unittest.TestCase):
         self.assertRegex(repr(tree), r"^Tree\(directions=array\(\[\[")
 
     def test_a_picture(self):
-        # The first site leads out in the north, the middle one in the south, and the last one around the cylinder to the first one.
+        # The first site leads out in the north, the middle one in the south, and the last one around to the first one.
         self.assertEqual(sandpile.Tree(np.array([[0, 3, 2]]), True)._shown().tolist(),
                          [[0, 3, 0, 0, 0, 0, 0], [3, 3, 0, 3, 0, 3, 3], [0, 0, 0, 3, 0, 0, 0]])
         self.assertEqual(sandpile.Tree(np.array([[0], [0]]), False)._shown().tolist(),

@@ -10,8 +10,11 @@ import unittest
 
 import sandpile
 
-CITING = ("settle", "burn", "recurrent", "identity", "random_recurrent", "Recurrent", "Drive", "SharedPile", "lab")
-RELATED = (*CITING, "replicas", "show", "animate")
+CITING = (
+    "settle", "burn", "recurrent", "superstable", "identity", "random_recurrent", "Recurrent", "Drive", "SharedPile", "lab",
+    "Drive.drop", "Drive.waves", "Recurrent.tree",
+)
+RELATED = (*CITING, "Recurrent.from_tree", "is_superstable", "replicas", "show", "animate")
 
 
 class Examples(unittest.TestCase):
@@ -39,14 +42,14 @@ class Examples(unittest.TestCase):
 
     def test_see_also_names_what_there_is(self):
         for name in RELATED:
-            text = inspect.getdoc(getattr(sandpile, name))
+            text = inspect.getdoc(operator.attrgetter(name)(sandpile))
             section = re.search(r"^See Also\n-+\n(.*?)\n\n", text, re.M | re.S)[1]
             with self.subTest(name=name):
                 operator.attrgetter(*re.findall(r"^([\w.]+) : ", section, re.M))(sandpile)
 
     def test_what_is_cited_is_listed(self):
         for name in CITING:
-            text = inspect.getdoc(getattr(sandpile, name))
+            text = inspect.getdoc(operator.attrgetter(name)(sandpile))
             with self.subTest(name=name):
                 cited = sorted(re.findall(r"\[(\d)\]_", text))
                 self.assertIn("1", cited)

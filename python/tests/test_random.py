@@ -1,4 +1,4 @@
-"""Random recurrent piles: each is as likely as any other, and what is known of a stationary pile and its tree is true of them."""
+"""Random recurrent piles: each is as likely as any other, and what is known of stationary piles and trees is true of them."""
 
 import unittest
 from concurrent.futures import ThreadPoolExecutor
@@ -82,7 +82,8 @@ class Known(unittest.TestCase):
 
 class Uniform(unittest.TestCase):
     def test_each_tree_is_equally_likely(self):
-        for height, width, cylinder, count in ((2, 2, False, 2000), (2, 3, False, 4000), (3, 3, True, 4000), (1, 4, True, 4000)):
+        grids = ((2, 2, False, 2000), (2, 3, False, 4000), (3, 3, True, 4000), (1, 4, True, 4000))
+        for height, width, cylinder, count in grids:
             with self.subTest(height=height, width=width, cylinder=cylinder):
                 elements = round(np.linalg.det(toppling_matrix(height, width, cylinder)))
                 piles = [sandpile.random_recurrent((height, width), (1, at), cylinder) for at in range(count)]

@@ -253,7 +253,8 @@ class Each(unittest.TestCase):
                 expected = [by_hand_measured(hand, stream) for stream in STREAMS]
                 for executor in (None, Backwards(), threads, forks, spawns):
                     with self.subTest(start=name, executor=executor):
-                        self.assertEqual(list(sandpile.replicas(start, SEED, STREAMS, DROPS, executor, each=measured)), expected)
+                        results = list(sandpile.replicas(start, SEED, STREAMS, DROPS, executor, each=measured))
+                        self.assertEqual(results, expected)
 
     def test_it_may_return_the_run(self):
         fork = multiprocessing.get_context("fork")
@@ -288,7 +289,8 @@ class Each(unittest.TestCase):
 
     def test_what_is_no_function(self):
         for each in (5, "size", []):
-            self.assertRaisesRegex(TypeError, "^each must be a function of a Drive, not", sandpile.replicas, (3, 3), 1, [0], 5, each=each)
+            with self.assertRaisesRegex(TypeError, "^each must be a function of a Drive, not"):
+                sandpile.replicas((3, 3), 1, [0], 5, each=each)
 
     def test_progress_counts_replicas(self):
         shown = io.StringIO()

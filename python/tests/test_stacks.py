@@ -161,7 +161,8 @@ class Burning(unittest.TestCase):
     def test_faults(self):
         stack = stack_of(4, 3, 4, most=4)
         stack[2, 1, 1] = 4
-        self.assertRaisesRegex(sandpile.Fault, "fault 7 Unstable: pile 2 of the stack: a site has more than 3", sandpile.burn, stack)
+        said = "fault 7 Unstable: pile 2 of the stack: a site has more than 3 grains"
+        self.assertRaisesRegex(sandpile.Fault, said, sandpile.burn, stack)
         empty = np.zeros((0, 3, 2), int)
         self.assertRaisesRegex(sandpile.Fault, "fault 24", sandpile.burn, empty, cylinder=True)
         found = sandpile.burn(empty)

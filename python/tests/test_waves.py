@@ -51,8 +51,8 @@ def runs(height, width, cylinder, count=2):
 
 class Waves(unittest.TestCase):
     def test_by_hand(self):
-        # The drop brings the middle to 4. In the first wave all topple: the corners lose 4 and get 2, the sides lose 4 and get 3, and the
-        # middle has 0 and gets 4. In the second one only the middle topples, since no side has more than 2, and then 3.
+        # The drop brings the middle to 4. In the first wave all topple: the corners lose 4 and get 2, the sides lose 4 and get
+        # 3, and the middle has 0 and gets 4. In the second one only the middle topples: the sides have 2, and then 3.
         run = sandpile.Drive(np.full((3, 3), 3))
         row, sizes, waves = run.waves(row=1, column=1)
         self.assertEqual((int(row["size"]), sizes.tolist()), (10, [9, 1]))
@@ -104,8 +104,8 @@ class Waves(unittest.TestCase):
             self.assertEqual(caught.exception.number, 25)
         for words in (("0",), (1.5,), ((1, 2),)):
             self.assertRaises(TypeError, run.waves, *words)
-        for call in (lambda both: run.drop(5, **both), lambda both: run.drop_at([1], **both), lambda both: next(run.blocks(5, 2, **both))):
-            self.assertRaisesRegex(TypeError, "returns odometers or waves", call, {"odometers": True, "waves": True})
+        for call in (run.drop, run.drop_at, lambda n, **both: next(run.blocks(n, 2, **both))):
+            self.assertRaisesRegex(TypeError, "returns odometers or waves", call, 5, odometers=True, waves=True)
         for n, number in ((-1, 15), (2**40, 6)):
             with self.assertRaises(sandpile.Fault) as caught:
                 run.drop(n, waves=True)
