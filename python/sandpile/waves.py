@@ -76,7 +76,6 @@ def _topple_wave(heights: NDArray[np.int64], site: int, sides: NDArray[np.int64]
     while front.size:
         topples[front] = True
         heights[front] -= 4
-        reached = sides[:, front].ravel()
-        np.add.at(heights, reached, 1)
-        reached = np.unique(reached)
+        reached, grains = np.unique(sides[:, front], return_counts=True)
+        heights[reached] += grains
         front = reached[(heights[reached] > 3) & ~topples[reached]]
