@@ -1,5 +1,5 @@
 -- What `sandpile_drive_waves` does.
-use Rattle.std.specs.Prelude.{ℕ, ◌≡◌, ◌+◌, ◌-◌, ◌*◌, ◌≤◌, List, [], ◌∷◌, ◌++◌, length, replicate, Option, Result, Ok, Err}
+use Rattle.std.specs.Prelude.{ℕ, ◌≡◌, ◌+◌, ◌-◌, ◌*◌, ◌≤◌, List, [], ◌∷◌, ◌++◌, length, replicate, Option, Result}
 use Rattle.sand_model.specs.Sand.{one_at}
 use Rattle.sand_model.specs.Piles.{height_of}
 use Rattle.sand_model.specs.Edges.{most_to_edge}
