@@ -81,6 +81,7 @@ pub(crate) fn first_to_burn(
 
 // One neighbour of a burnt site, if there is one, has one unburnt neighbour less, and burns if that number is now its
 // height.
+#[inline(always)]
 fn note_burnt_neighbour(
     heights: &[u64],
     unburnt: &mut Vec<u8>,
@@ -108,6 +109,7 @@ fn note_burnt_neighbour(
 }
 
 // The same for each neighbour of a burnt site.
+#[inline(always)]
 fn spread_fire(
     lattice: &Lattice,
     heights: &[u64],
