@@ -3,6 +3,7 @@
 ghost use Rattle.std.specs.Prelude.{◌≤◌, ◌<◌};
 
 use crate::places::Place;
+use crate::rows::{run, run_mut};
 use crate::tile::{COLUMNS, LEVEL, ROWS, Tile};
 use std::simd::prelude::*;
 
@@ -37,25 +38,11 @@ fn add_bits(sums: &mut [i64], bits: u16, number: i64) {
     }
 }
 
-// Writes a number at the columns of a set.
-fn put_bits(list: &mut [u32], bits: u16, number: u32) {
-    let mut rest = bits;
-    for _ in 0..COLUMNS {
-        if rest == 0 {
-            break;
-        }
-        if let Some(to) = list.get_mut(rest.trailing_zeros() as usize) {
-            *to = number;
-        }
-        rest &= rest.wrapping_sub(1);
-    }
-}
-
 /// A tile with the heights of its sites.
 pub(crate) fn tile_of(place: &Place, heights: &[i64]) -> Tile {
     let mut planes = [[0u16; ROWS]; 4];
     for row in 0..ROWS {
-        let cells = place.row(heights, row);
+        let cells = run(heights, place.first_in(row), place.columns);
         for plane in 0..4 {
             planes[plane][row] = bits_of(cells, plane as u32);
         }
@@ -74,20 +61,7 @@ pub(crate) fn tile_of(place: &Place, heights: &[i64]) -> Tile {
 pub(crate) fn marks_of(place: &Place, counts: &[i64], least: i64) -> u16x8 {
     let mut rows = [0u16; ROWS];
     for row in 0..ROWS {
-        rows[row] = above(place.row(counts, row), least);
-    }
-    u16x8::from_array(rows)
-}
-
-/// Takes back a toppling of each site of a set, and returns those of which none can be taken back any more.
-pub(crate) fn untopple(place: &Place, counts: &mut [i64], set: u16x8, least: i64) -> u16x8 {
-    let mut rows = set.to_array();
-    for row in 0..ROWS {
-        if rows[row] != 0 {
-            let cells = place.row_mut(counts, row);
-            add_bits(cells, rows[row], -1);
-            rows[row] &= !above(cells, least);
-        }
+        rows[row] = above(run(counts, place.first_in(row), place.columns), least);
     }
     u16x8::from_array(rows)
 }
@@ -97,15 +71,8 @@ pub(crate) fn add_where(place: &Place, sums: &mut [i64], set: u16x8, number: i64
     let rows = set.to_array();
     for row in 0..ROWS {
         if rows[row] != 0 {
-            add_bits(place.row_mut(sums, row), rows[row], number);
+            let cells = run_mut(sums, place.first_in(row), place.columns);
+            add_bits(cells, rows[row], number);
         }
-    }
-}
-
-/// Writes a number at the sites of a set of places of a tile.
-pub(crate) fn put_where(place: &Place, list: &mut [u32], set: u16x8, number: u32) {
-    let rows = set.to_array();
-    for row in 0..ROWS {
-        put_bits(place.row_mut(list, row), rows[row], number);
     }
 }

@@ -5,7 +5,6 @@
 
 ghost use Rattle.std.specs.Prelude.{◌≤◌, ◌<◌};
 
-use crate::rows::{run, run_mut};
 use crate::tile::{COLUMNS, ROWS};
 use sand_model::{Edge, Shape};
 use std::alloc::{AllocError, Global};
@@ -16,7 +15,7 @@ use std::simd::prelude::*;
 pub(crate) struct Place {
     /// The site in its first row and column, if it has sites, and the number of columns with sites.
     corner: usize,
-    columns: usize,
+    pub(crate) columns: usize,
     /// The number of sites in a row of the grid.
     width: usize,
     pub(crate) sites: u16x8,
@@ -26,39 +25,15 @@ pub(crate) struct Place {
     pub(crate) west: usize,
     pub(crate) east: usize,
     /// The bit of the last column of the tile to the west, and of the last one that is next to the tile to the east.
-    west_end: u16,
-    east_end: u16,
+    pub(crate) west_end: u16,
+    pub(crate) east_end: u16,
 }
 
 impl Place {
-    // The site in the first column of a row.
+    /// The site in the first column of a row.
     #[inline(always)]
-    fn first_in(&self, row: usize) -> usize {
+    pub(crate) fn first_in(&self, row: usize) -> usize {
         self.corner.wrapping_add(row.wrapping_mul(self.width))
-    }
-
-    /// The first column of a set, as the last one of the tile to the west.
-    #[inline(always)]
-    pub(crate) fn to_west(&self, set: u16x8) -> u16x8 {
-        (set & u16x8::splat(1)) * u16x8::splat(self.west_end)
-    }
-
-    /// The last column of a set, as the first one of the tile to the east.
-    #[inline(always)]
-    pub(crate) fn to_east(&self, set: u16x8) -> u16x8 {
-        (set & u16x8::splat(self.east_end)).simd_min(u16x8::splat(1))
-    }
-
-    /// The part of a list by site that is in a row of the tile.
-    #[inline(always)]
-    pub(crate) fn row<'a, T>(&self, list: &'a [T], row: usize) -> &'a [T] {
-        run(list, self.first_in(row), self.columns)
-    }
-
-    /// The same, mutable.
-    #[inline(always)]
-    pub(crate) fn row_mut<'a, T>(&self, list: &'a mut [T], row: usize) -> &'a mut [T] {
-        run_mut(list, self.first_in(row), self.columns)
     }
 }
 
@@ -78,20 +53,16 @@ fn span(side: usize, number: usize, most: usize) -> usize
     side.saturating_sub(before).min(most)
 }
 
-// The bits of the first columns.
-fn first_columns(count: usize) -> u16
-    requires { count ≤ 16 }
+// The first columns of the first rows.
+fn rectangle(columns: usize, rows: usize) -> u16x8
+    requires { columns ≤ 16 }
 {
-    u16::MAX.checked_shr((COLUMNS - count) as u32).unwrap_or(0)
-}
-
-// The first rows of these columns.
-fn first_rows(columns: u16, count: usize) -> u16x8 {
-    let mut rows = [0u16; ROWS];
-    for row in 0..ROWS.min(count) {
-        rows[row] = columns;
+    let row = u16::MAX.checked_shr((COLUMNS - columns) as u32);
+    let mut all = [0u16; ROWS];
+    for y in 0..ROWS.min(rows) {
+        all[y] = row.unwrap_or(0);
     }
-    u16x8::from_array(rows)
+    u16x8::from_array(all)
 }
 
 // The place of the tile in row y and column x.
@@ -100,8 +71,7 @@ fn place_of(shape: Shape, x: usize, y: usize) -> Place {
     let row = y.wrapping_mul(pitch_of(shape));
     let k = row.wrapping_add(x);
     let columns = span(shape.width(), x, COLUMNS);
-    let all = first_columns(columns);
-    let sites = first_rows(all, span(shape.height(), y, ROWS));
+    let sites = rectangle(columns, span(shape.height(), y, ROWS));
     let is_round = shape.edge() == Edge::Cylinder;
     let seam = 1u16 << (shape.width() - 1) % COLUMNS;
     let (is_first, is_last) = (is_round && x == 1, is_round && x == across);
@@ -115,7 +85,7 @@ fn place_of(shape: Shape, x: usize, y: usize) -> Place {
         width: shape.width(),
         sites,
         sinks: if is_round {
-            u16x8::splat(all) & !sites
+            rectangle(columns, ROWS) & !sites
         } else {
             !sites
         },

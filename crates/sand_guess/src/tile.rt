@@ -31,11 +31,6 @@ pub(crate) struct Tile {
 }
 
 #[inline(always)]
-pub(crate) fn none() -> u16x8 {
-    u16x8::splat(0)
-}
-
-#[inline(always)]
 pub(crate) fn is_any(set: u16x8) -> bool {
     set.reduce_or() != 0
 }
@@ -43,10 +38,10 @@ pub(crate) fn is_any(set: u16x8) -> bool {
 // A set moved one place to the south, north, east and west. What leaves the tile is cut off.
 #[inline(always)]
 fn moved(set: u16x8) -> [u16x8; 4] {
-    let one = u16x8::splat(1);
+    let (none, one) = (u16x8::splat(0), u16x8::splat(1));
     [
-        none().shuffle(set, [0, 8, 9, 10, 11, 12, 13, 14]),
-        set.shuffle(none(), [1, 2, 3, 4, 5, 6, 7, 8]),
+        none.shuffle(set, [0, 8, 9, 10, 11, 12, 13, 14]),
+        set.shuffle(none, [1, 2, 3, 4, 5, 6, 7, 8]),
         set << one,
         set >> one,
     ]
@@ -57,18 +52,6 @@ fn moved(set: u16x8) -> [u16x8; 4] {
 fn next_to(set: u16x8) -> u16x8 {
     let [south, north, east, west] = moved(set);
     south | north | east | west
-}
-
-/// The last row of a set as the first row of the tile to the south.
-#[inline(always)]
-pub(crate) fn sent_south(set: u16x8) -> u16x8 {
-    set.shuffle(none(), [7, 8, 8, 8, 8, 8, 8, 8])
-}
-
-/// The first row of a set as the last row of the tile to the north.
-#[inline(always)]
-pub(crate) fn sent_north(set: u16x8) -> u16x8 {
-    none().shuffle(set, [0, 0, 0, 0, 0, 0, 0, 8])
 }
 
 impl Tile {
@@ -123,7 +106,7 @@ impl Tile {
     #[inline(never)]
     pub(crate) fn visit(&mut self) -> u16x8 {
         let mut tile = *self;
-        let mut toppled = none();
+        let mut toppled = u16x8::splat(0);
         for _ in 0..ROUNDS {
             let due = tile.due & !toppled;
             if !is_any(due) {

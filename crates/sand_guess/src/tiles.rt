@@ -10,13 +10,12 @@
 
 ghost use Rattle.std.specs.Prelude.{◌≤◌, ◌<◌};
 
-use crate::cells::{add_where, marks_of, put_where, tile_of, untopple};
+use crate::cells::{add_where, marks_of, tile_of};
 use crate::density::numbers_of;
 use crate::places::{Place, pitch_of, places_of};
-use crate::tile::{LEVEL, ROUNDS, Tile, is_any, none, sent_north, sent_south};
+use crate::tile::{LEVEL, ROUNDS, Tile, is_any};
 use sand_model::Shape;
 use std::alloc::{AllocError, Global};
-use std::mem;
 use std::simd::prelude::*;
 
 // The greatest number on the tiles when toppling begins: later it may have four more.
@@ -55,10 +54,6 @@ impl Queue {
         })
     }
 
-    fn is_empty(&self) -> bool {
-        self.head == self.tail
-    }
-
     #[inline(always)]
     fn push_if(&mut self, k: usize, test: bool) {
         let last = self.slots.len().wrapping_sub(1);
@@ -69,11 +64,14 @@ impl Queue {
     }
 
     #[inline(always)]
-    fn pop(&mut self) -> usize {
+    fn pop(&mut self) -> Option<usize> {
+        if self.head == self.tail {
+            return None;
+        }
         let last = self.slots.len().wrapping_sub(1);
         let k = self.slots.get(self.head & last).copied();
         self.head = self.head.wrapping_add(1);
-        k.unwrap_or(0)
+        k
     }
 }
 
@@ -92,28 +90,21 @@ pub(crate) struct Tiles {
     unburnt: Vec<u16x8>,
     queue: Queue,
     /// The turns at which sites burn, if they are asked for, and the last of them.
-    turns: Vec<u32>,
-    turn: u32,
-}
-
-// Adds a set to some planes of numbers, and returns what is carried out of the last.
-#[inline(always)]
-fn add_set(planes: &mut [u16x8; PLANES], from: usize, to: usize, set: u16x8) -> u16x8 {
-    let mut carry = set;
-    for plane in from..to.min(PLANES) {
-        let before = planes[plane];
-        planes[plane] = before ^ carry;
-        carry &= before;
-    }
-    carry
+    turns: Vec<i64>,
+    turn: i64,
 }
 
 // Counts a toppling of each place of a set.
 #[inline(always)]
 fn count_up(counts: &mut [u16x8; PLANES], set: u16x8) {
-    let carry = add_set(counts, 0, FEW_PLANES, set);
-    if is_any(carry) {
-        add_set(counts, FEW_PLANES, PLANES, carry);
+    let mut carry = set;
+    for plane in 0..PLANES {
+        if plane == FEW_PLANES && !is_any(carry) {
+            break;
+        }
+        let before = counts[plane];
+        counts[plane] = before ^ carry;
+        carry &= before;
     }
 }
 
@@ -121,21 +112,22 @@ impl Tiles {
     pub(crate) fn new(alloc: Global, shape: Shape) -> Result<Tiles, AllocError> {
         let places = places_of(alloc, shape)?;
         let n = places.len();
+        let none = u16x8::splat(0);
         let bare = Tile {
-            low: none(),
-            high: none(),
-            four: none(),
-            due: none(),
-            sites: none(),
+            low: none,
+            high: none,
+            four: none,
+            due: none,
+            sites: none,
         };
         Ok(Tiles {
             shape,
             pitch: pitch_of(shape),
             places,
             tiles: vec![in alloc; bare; n]?,
-            counts: vec![in alloc; [none(); PLANES]; n]?,
-            marks: vec![in alloc; none(); n]?,
-            unburnt: vec![in alloc; none(); n]?,
+            counts: vec![in alloc; [none; PLANES]; n]?,
+            marks: vec![in alloc; none; n]?,
+            unburnt: vec![in alloc; none; n]?,
             queue: Queue::new(alloc)?,
             turns: Vec::new(alloc),
             turn: 0,
@@ -168,16 +160,20 @@ impl Tiles {
             return;
         };
         let (west, east) = (place.west, place.east);
-        let (to_west, to_east) = (place.to_west(set), place.to_east(set));
-        self.gain(k.wrapping_sub(self.pitch), sent_north(set));
-        self.gain(k.wrapping_add(self.pitch), sent_south(set));
+        let (none, one) = (u16x8::splat(0), u16x8::splat(1));
+        let to_north = none.shuffle(set, [0, 0, 0, 0, 0, 0, 0, 8]);
+        let to_south = set.shuffle(none, [7, 8, 8, 8, 8, 8, 8, 8]);
+        let to_west = (set & one) * u16x8::splat(place.west_end);
+        let to_east = (set & u16x8::splat(place.east_end)).simd_min(one);
+        self.gain(k.wrapping_sub(self.pitch), to_north);
+        self.gain(k.wrapping_add(self.pitch), to_south);
         self.gain(west, to_west);
         self.gain(east, to_east);
     }
 
     // Visits a tile, and writes the turns of the sites that topple.
     fn visit_in_turns(&mut self, k: usize) -> u16x8 {
-        let mut toppled = none();
+        let mut toppled = u16x8::splat(0);
         for _ in 0..ROUNDS {
             let Some(tile) = self.tiles.get_mut(k) else {
                 break;
@@ -199,7 +195,7 @@ impl Tiles {
     fn put_turns(&mut self, k: usize, set: u16x8) {
         self.turn = self.turn.wrapping_add(1);
         if let Some(place) = self.places.get(k) {
-            put_where(place, &mut self.turns, set, self.turn);
+            add_where(place, &mut self.turns, set, self.turn);
         }
     }
 
@@ -207,7 +203,9 @@ impl Tiles {
     #[inline(always)]
     fn visit(&mut self, k: usize) {
         let toppled = if self.turns.is_empty() {
-            self.tiles.get_mut(k).map_or(none(), |tile| tile.visit())
+            self.tiles
+                .get_mut(k)
+                .map_or(u16x8::splat(0), |tile| tile.visit())
         } else {
             self.visit_in_turns(k)
         };
@@ -222,13 +220,12 @@ impl Tiles {
     // Topples until no tile waits, and returns whether this number of visits was enough.
     fn topple_waiting(&mut self, visits: usize) -> bool {
         for _ in 0..visits {
-            if self.queue.is_empty() {
+            let Some(k) = self.queue.pop() else {
                 return true;
-            }
-            let k = self.queue.pop();
+            };
             self.visit(k);
         }
-        self.queue.is_empty()
+        self.queue.head == self.queue.tail
     }
 
     /// Topples until no site may topple, and returns whether this number of visits for each tile was enough.
@@ -247,7 +244,7 @@ impl Tiles {
             return;
         }
         let planes = self.counts[k];
-        self.counts[k] = [none(); PLANES];
+        self.counts[k] = [u16x8::splat(0); PLANES];
         let Some(place) = self.places.get(k) else {
             return;
         };
@@ -265,7 +262,7 @@ impl Tiles {
     fn kindling(&self, k: usize) -> u16x8 {
         match (self.places.get(k), self.marks.get(k)) {
             (Some(place), Some(marks)) => place.sinks | place.sites & !*marks,
-            _ => none(),
+            _ => u16x8::splat(0),
         }
     }
 
@@ -279,24 +276,17 @@ impl Tiles {
         }
     }
 
-    // Gives the grains of places that have paid for them to their neighbours.
-    fn give(&mut self, k: usize, set: u16x8) {
-        if let Some(tile) = self.tiles.get_mut(k) {
-            let was_due = is_any(tile.due);
-            tile.give(set, none());
-            let is_new = !was_due & is_any(tile.due);
-            self.queue.push_if(k, is_new);
-        }
-        self.hand_over(k, set);
-    }
-
     // The kindling gives grains to its neighbours.
     fn kindle(&mut self) {
         for k in 0..self.tiles.len() {
             let kindling = self.kindling(k);
-            if is_any(kindling) {
-                self.give(k, kindling);
+            if let Some(tile) = self.tiles.get_mut(k) {
+                let was_due = is_any(tile.due);
+                tile.give(kindling, u16x8::splat(0));
+                let is_new = !was_due & is_any(tile.due);
+                self.queue.push_if(k, is_new);
             }
+            self.hand_over(k, kindling);
         }
     }
 
@@ -307,7 +297,7 @@ impl Tiles {
         let n = self.unburnt.len().min(self.marks.len());
         for k in 0..n.min(self.counts.len()) {
             let [burnt, ..] = self.counts[k];
-            self.counts[k] = [none(); PLANES];
+            self.counts[k] = [u16x8::splat(0); PLANES];
             self.unburnt[k] = self.marks[k] & !burnt;
             is_left |= is_any(self.unburnt[k]);
         }
@@ -331,11 +321,16 @@ impl Tiles {
     }
 
     // Takes back a toppling of each site that did not burn.
-    fn untopple_all(&mut self, counts: &mut [i64], least: i64) {
+    fn untopple(&mut self, counts: &mut [i64], least: i64) {
         let n = self.unburnt.len().min(self.marks.len());
         for k in 0..n.min(self.places.len()) {
-            let last = untopple(&self.places[k], counts, self.unburnt[k], least);
-            self.marks[k] = self.marks[k] & !last;
+            let (place, set) = (&self.places[k], self.unburnt[k]);
+            add_where(place, counts, set, -1);
+            self.marks[k] = if is_any(set) {
+                marks_of(place, counts, least)
+            } else {
+                self.marks[k]
+            };
         }
     }
 
@@ -348,7 +343,7 @@ impl Tiles {
             if !self.burn() {
                 return true;
             }
-            self.untopple_all(counts, least);
+            self.untopple(counts, least);
         }
         false
     }
@@ -369,9 +364,13 @@ impl Tiles {
         counts: &[i64],
         least: i64,
     ) -> Result<Vec<u32>, AllocError> {
-        self.turns = vec![in alloc; 0u32; self.shape.sites()]?;
+        self.turns = vec![in alloc; 0i64; self.shape.sites()]?;
         self.mark(counts, least);
         self.burn();
-        Ok(mem::replace(&mut self.turns, Vec::new(alloc)))
+        let mut turns = vec![in alloc; 0u32; self.turns.len()]?;
+        for site in 0..turns.len().min(self.turns.len()) {
+            turns[site] = u32::try_from(self.turns[site]).unwrap_or(0);
+        }
+        Ok(turns)
     }
 }
