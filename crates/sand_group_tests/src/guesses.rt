@@ -1,4 +1,4 @@
-//! What no contract says: that a claim is made, by a guess or by sweeps, and is right for small piles; and which piles
+//! What no contract says: that a claim is made, by a guess or on tiles, and is right for small piles; and which piles
 //! count as high or flat.
 
 use crate::piles::{pile_on, row};
@@ -7,7 +7,7 @@ use sand_model::{Edge, Pile, Shape};
 use std::alloc::Global;
 use std::test::Fail;
 
-// Whether a claim for a pile in one row has these counts, by a guess or by sweeps.
+// Whether a claim for a pile in one row has these counts, by a guess or on tiles.
 fn is_claimed(
     alloc: Global,
     edge: Edge,

@@ -1,4 +1,4 @@
-//! Guesses are made and accepted for piles of all shapes, edges and heights, and so are claims by sweeps for flat
+//! Guesses are made and accepted for piles of all shapes, edges and heights, and so are claims by tiles for flat
 //! piles.
 
 ghost use Rattle.std.specs.Prelude.{◌<◌};
@@ -97,7 +97,7 @@ fn left_by_guess(alloc: Global, pile: &Pile) -> Option<Vec<u64>> {
     left_by(alloc, pile, guessed(alloc, pile).ok()??)
 }
 
-fn left_by_sweeps(alloc: Global, pile: &Pile) -> Option<Vec<u64>> {
+fn left_by_tiles(alloc: Global, pile: &Pile) -> Option<Vec<u64>> {
     left_by(alloc, pile, toppled(alloc, pile).ok()??)
 }
 
@@ -109,8 +109,8 @@ fn claims_for_many_piles_are_accepted(rt: HostRuntime) {
         if let Some(pile) = numbers.pile(rt.alloc()) {
             assert!(rt; left_by_guess(rt.alloc(), &pile).is_some());
             piles = piles.saturating_add(1);
-            // A large pile with many grains may need more sweeps than are tried.
-            if is_flat(&pile) && left_by_sweeps(rt.alloc(), &pile).is_some() {
+            // A large pile with many grains may need more visits than are tried.
+            if is_flat(&pile) && left_by_tiles(rt.alloc(), &pile).is_some() {
                 flat = flat.saturating_add(1);
             }
         }
