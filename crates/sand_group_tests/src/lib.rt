@@ -19,3 +19,5 @@ mod piles;
 mod settling;
 #[cfg(test)]
 mod shapes;
+#[cfg(test)]
+mod waves;
