@@ -8,6 +8,8 @@
 #[cfg(test)]
 mod claims;
 #[cfg(test)]
+mod classes;
+#[cfg(test)]
 mod guesses;
 #[cfg(test)]
 mod many_piles;
