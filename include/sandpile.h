@@ -190,9 +190,9 @@ uint32_t sandpile_tree(size_t width, size_t height, bool cylinder, const uint64_
 uint32_t sandpile_of_tree(size_t width, size_t height, bool cylinder, const uint8_t *directions, size_t directions_length,
                           uint64_t *heights, size_t heights_length);
 
-/* Writes a random recurrent pile; each is as likely as any other. It is the pile of a random tree, made by Wilson's algorithm
-   (1996) from the words of the stream that `sandpile_sites` reads. `heights_length` is width times height. SIDE, NARROW,
-   LENGTH, MEMORY. */
+/* Writes a random recurrent pile; each is as likely as any other. It is the pile of the tree that Wilson's algorithm (1996) makes
+   by walks from each site in turn. Each step has the direction of the stream's next word, modulo 4; the streams are those of
+   `sandpile_sites`. `heights_length` is width times height. SIDE, NARROW, LENGTH, MEMORY. */
 uint32_t sandpile_random(size_t width, size_t height, bool cylinder, uint64_t seed, uint64_t stream, uint64_t *heights,
                          size_t heights_length);
 
