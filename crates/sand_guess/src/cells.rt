@@ -38,6 +38,20 @@ fn add_bits(sums: &mut [i64], bits: u16, number: i64) {
     }
 }
 
+/// Writes a number at the columns of a set.
+pub(crate) fn put_bits(list: &mut [u32], bits: u16, number: u32) {
+    let mut rest = bits;
+    for _ in 0..COLUMNS {
+        if rest == 0 {
+            break;
+        }
+        if let Some(to) = list.get_mut(rest.trailing_zeros() as usize) {
+            *to = number;
+        }
+        rest &= rest.wrapping_sub(1);
+    }
+}
+
 /// A tile with the heights of its sites.
 pub(crate) fn tile_of(place: &Place, heights: &[i64]) -> Tile {
     let mut planes = [[0u16; ROWS]; 4];

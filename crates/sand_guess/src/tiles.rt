@@ -10,12 +10,14 @@
 
 ghost use Rattle.std.specs.Prelude.{◌≤◌, ◌<◌};
 
-use crate::cells::{add_where, marks_of, tile_of};
+use crate::cells::{add_where, marks_of, put_bits, tile_of};
 use crate::density::numbers_of;
 use crate::places::{Place, pitch_of, places_of};
-use crate::tile::{LEVEL, ROUNDS, Tile, is_any};
+use crate::rows::run_mut;
+use crate::tile::{LEVEL, ROUNDS, ROWS, Tile, is_any};
 use sand_model::Shape;
 use std::alloc::{AllocError, Global};
+use std::mem;
 use std::simd::prelude::*;
 
 // The greatest number on the tiles when toppling begins: later it may have four more.
@@ -90,8 +92,8 @@ pub(crate) struct Tiles {
     unburnt: Vec<u16x8>,
     queue: Queue,
     /// The turns at which sites burn, if they are asked for, and the last of them.
-    turns: Vec<i64>,
-    turn: i64,
+    turns: Vec<u32>,
+    turn: u32,
 }
 
 // Counts a toppling of each place of a set.
@@ -194,8 +196,12 @@ impl Tiles {
     // Writes the next turn, of a set of places.
     fn put_turns(&mut self, k: usize, set: u16x8) {
         self.turn = self.turn.wrapping_add(1);
+        let rows = set.to_array();
         if let Some(place) = self.places.get(k) {
-            add_where(place, &mut self.turns, set, self.turn);
+            for row in 0..ROWS {
+                let cells = run_mut(&mut self.turns, place.first_in(row), place.columns);
+                put_bits(cells, rows[row], self.turn);
+            }
         }
     }
 
@@ -364,13 +370,9 @@ impl Tiles {
         counts: &[i64],
         least: i64,
     ) -> Result<Vec<u32>, AllocError> {
-        self.turns = vec![in alloc; 0i64; self.shape.sites()]?;
+        self.turns = vec![in alloc; 0u32; self.shape.sites()]?;
         self.mark(counts, least);
         self.burn();
-        let mut turns = vec![in alloc; 0u32; self.turns.len()]?;
-        for site in 0..turns.len().min(self.turns.len()) {
-            turns[site] = u32::try_from(self.turns[site]).unwrap_or(0);
-        }
-        Ok(turns)
+        Ok(mem::replace(&mut self.turns, Vec::new(alloc)))
     }
 }
