@@ -7,8 +7,6 @@ the drop then has four grains again, another wave follows. An avalanche topples 
 
 from __future__ import annotations
 
-from typing import Optional
-
 import numpy as np
 from numpy.typing import NDArray
 
@@ -30,29 +28,32 @@ class Gathered:
 
     def __init__(self, most: int) -> None:
         self._most, self._drops, self._rows = most, 0, [np.empty(0, WAVE)]
-        self._sizes: Optional[NDArray[np.int64]] = None  # of the last block
+        self._room = np.empty((0, most), np.int64)
+        self._block = self._room  # what the library has filled last, a row for each drop
 
     def room(self, drops: int) -> NDArray[np.int64]:
         """Where the library writes the sizes of the waves of the next block: a row for each drop, with zeros at its end."""
         self._take()
-        self._sizes = new_array((drops, self._most), np.int64, f"the waves of {drops} drops")
-        return self._sizes
+        if len(self._room) < drops:
+            self._room = new_array((drops, self._most), np.int64, f"the waves of {drops} drops")
+        self._block = self._room[:drops]
+        return self._block
 
     def of(self, table: NDArray[np.void]) -> NDArray[np.void]:
         """The waves of all blocks, whose drops have this table."""
         self._take()
         rows = np.concatenate(self._rows)
-        rows["number"] = table["number"][rows["number"]]
+        if len(table):
+            rows["number"] += table["number"][0]
         return rows
 
     def _take(self) -> None:
-        sizes, self._sizes = self._sizes, None
-        if sizes is not None:
-            drop, wave = np.nonzero(sizes)
-            rows = np.empty(drop.size, WAVE)
-            rows["number"], rows["wave"], rows["size"] = drop + self._drops, wave, sizes[drop, wave]
-            self._rows.append(rows)
-            self._drops += len(sizes)
+        at = np.flatnonzero(self._block != 0)  # NumPy finds what is True faster than what is not 0
+        drop, rows = at // self._most, np.empty(at.size, WAVE)
+        rows["number"], rows["wave"] = drop + self._drops, at - drop * self._most
+        rows["size"] = self._block.ravel()[at]
+        self._rows.append(rows)
+        self._drops += len(self._block)
 
 
 def masks(pile: Heights, site: int, cylinder: bool, sizes: NDArray[np.int64]) -> NDArray[np.bool_]:

@@ -88,7 +88,6 @@ def state():
 
 # The first drop that succeeds ends the test, so the run does not change before.
 try_call("drop", lambda: run.drop_at([0, 1, 2]), state)
-try_call("waves", lambda: run.drop_at([0, 1, 2], waves=True), state)
 run.save("run")
 try_call("load", lambda: sandpile.Drive.load("run"))
 try_call("copy", lambda: copy.copy(run), state)
