@@ -1,11 +1,13 @@
 """Integer heights of any sign: the recurrent pile, the firing vector and the superstable heights of their class, against exact
-linear algebra and, for small grids, all sets of sites."""
+linear algebra, SageMath 9.5 and, for small grids, all sets of sites."""
 
 import functools
 import itertools
+import json
 import random
 import unittest
 from fractions import Fraction
+from pathlib import Path
 
 import numpy as np
 import sandpile
@@ -134,6 +136,19 @@ class AgainstLinearAlgebra(unittest.TestCase):
                 stay += same
             # One in each class, and there are det L classes.
             self.assertEqual(stay, round(np.linalg.det(toppling_matrix(shape, cylinder))))
+
+
+class Sage(unittest.TestCase):
+    def test_equivalent_recurrent_and_equivalent_superstable(self):
+        lines = Path(__file__).with_name("sage_classes.jsonl").read_text().splitlines()
+        self.assertEqual(len(lines), 120)
+        for case in map(json.loads, lines):
+            with self.subTest(case=case):
+                heights = np.reshape(case["heights"], (case["height"], case["width"]))
+                pile, firing = classed(heights, case["cylinder"])
+                self.assertEqual((pile.ravel().tolist(), firing.ravel().tolist()), (case["recurrent"], case["firing"]))
+                found = made_superstable(heights, case["cylinder"])
+                self.assertEqual(found.ravel().tolist(), case["superstable"])
 
 
 class OnPiles(unittest.TestCase):
