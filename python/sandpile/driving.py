@@ -669,7 +669,7 @@ class Drive(HasPile):
 
         Notes
         -----
-        The sizes are proved. The sites are found by the definition, in time proportional to the topplings, and compared with
+        The sizes are proved. The sites are found by the definition, in time proportional to sites and topplings, and compared with
         the sizes. A drop has at most ``(min(height, width) + 1) // 2`` waves, on a cylinder ``(height + 1) // 2``.
 
         References

@@ -7,10 +7,12 @@ the drop then has four grains again, another wave follows. An avalanche topples 
 
 from __future__ import annotations
 
+import functools
+
 import numpy as np
 from numpy.typing import NDArray
 
-from ._arrays import Heights, new_array
+from ._arrays import Heights, listed, new_array
 from ._grid import neighbours
 
 #: The type of the rows of the waves that `Drive.drop` returns, one for each wave.
@@ -59,24 +61,32 @@ class Gathered:
 def masks(pile: Heights, site: int, cylinder: bool, sizes: NDArray[np.int64]) -> NDArray[np.bool_]:
     """Which sites topple in each wave of a drop on a stable pile, by the definition; shape (waves, height, width). Their
     numbers must be those that the library has found."""
-    sides, heights = neighbours(pile.shape, cylinder), np.append(pile, 0)  # the sink is last
+    heights, sides = [*listed(pile.ravel()), 0], _sides(pile.shape, cylinder)  # the sink is last
     heights[site] += 1
-    topples = np.zeros((sizes.size, heights.size), bool)
-    for wave in topples:
-        _topple_wave(heights, site, sides, wave)
-    found = topples[:, :-1].reshape(sizes.size, *pile.shape)
+    found = np.zeros((sizes.size, *pile.shape), bool)
+    for wave in found.reshape(sizes.size, pile.size):
+        wave[:] = np.frombuffer(_topple_wave(heights, site, sides), bool)[:-1]
     if not np.array_equal(np.count_nonzero(found, axis=(1, 2)), sizes):
         raise RuntimeError("the waves differ from those that the library has found: this is an error of the module sandpile")
     return found
 
 
-def _topple_wave(heights: NDArray[np.int64], site: int, sides: NDArray[np.int64], topples: NDArray[np.bool_]) -> None:
-    """Topples the sites of a wave, front by front, and marks them. The sink never topples, however often it is reached."""
-    front = np.array([site])
-    topples[-1] = True
-    while front.size:
-        topples[front] = True
-        heights[front] -= 4
-        reached, grains = np.unique(sides[:, front], return_counts=True)
-        heights[reached] += grains
-        front = reached[(heights[reached] > 3) & ~topples[reached]]
+@functools.lru_cache(maxsize=4)
+def _sides(shape: tuple[int, ...], cylinder: bool) -> list[tuple[int, ...]]:
+    """The neighbours of each site, perhaps the sink."""
+    return [*zip(*listed(neighbours(shape, cylinder)))]
+
+
+def _topple_wave(heights: list[int], site: int, sides: list[tuple[int, ...]]) -> bytearray:
+    """Topples the sites of a wave, and returns a 1 for each. The sink never topples, however often it is reached."""
+    topples, due = bytearray(len(heights)), [site]
+    topples[site] = topples[-1] = 1
+    while due:
+        at = due.pop()
+        heights[at] -= 4
+        for side in sides[at]:
+            heights[side] += 1
+            if heights[side] > 3 and not topples[side]:
+                topples[side] = 1
+                due.append(side)
+    return topples
