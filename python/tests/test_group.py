@@ -77,6 +77,12 @@ class Sums(unittest.TestCase):
         self.assertRaises(TypeError, operator.add, a, 0)
 
 
+class Edges(unittest.TestCase):
+    def test_elements_of_different_edges_differ(self):
+        for pile in (np.full((3, 3), 3), np.full((2, 3, 3), 3)):
+            self.assertNotEqual(sandpile.Recurrent(pile), sandpile.Recurrent(pile, cylinder=True))
+
+
 class Arrays(unittest.TestCase):
     A = sandpile.recurrent(np.arange(12).reshape(3, 4))
     ARRAYS = (np.ones((3, 4), int), np.ma.array(np.ones((3, 4), int)), np.array(0))

@@ -300,15 +300,17 @@ class Each(unittest.TestCase):
 
     def test_it_ends_with_the_iterator(self):
         def endless(run):
-            ends.append(run)
+            begun.append(run)
             for _ in run.blocks(10**9 if run.stream else 1, 1):
-                pass
+                if rescue.is_set():
+                    break
             return run.stream
 
-        ends, before = [], set(threading.enumerate())
+        begun, before, rescue = [], set(threading.enumerate()), threading.Event()
+        self.addCleanup(rescue.set)
         results = sandpile.replicas([[0, 0], [0, 0]], 1, itertools.count(), 5, each=endless)
         self.assertEqual(next(results), 0)
-        self.assertTrue(soon(lambda: len(ends) > 1))
+        self.assertTrue(soon(lambda: len(begun) > 1))
         closing = threading.Thread(target=results.close)
         closing.start()
         closing.join(60)
