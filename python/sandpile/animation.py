@@ -5,7 +5,7 @@ from __future__ import annotations
 import copy
 import sys
 from collections.abc import Callable, Generator, Iterator
-from typing import TYPE_CHECKING, SupportsIndex
+from typing import TYPE_CHECKING, Any, SupportsIndex
 
 import numpy as np
 from numpy.typing import NDArray
@@ -132,7 +132,7 @@ def _waves(run: Drive, drops: int) -> Generator[Heights, None, None]:
         heights = run.pile
         row, _, masks = run.waves()
         heights.flat[row["site"]] += 1
-        left = iter(masks)
+        left: Iterator[Any] = iter(masks)
         yield from _avalanche(heights, run.cylinder, lambda _: next(left, _NONE))
 
 

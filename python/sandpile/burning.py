@@ -50,8 +50,8 @@ class Burned(Result, Pictured):
         if self._heights.ndim == 2:
             return _times(self._heights, self._cylinder)
         times = np.empty_like(self._heights)
-        for time, heights in zip(times, self._heights):
-            time[:] = _times(heights, self._cylinder)
+        for number in range(len(times)):
+            times[number] = _times(self._heights[number], self._cylinder)
         return times
 
     def _shown(self) -> Any:

@@ -688,8 +688,9 @@ class Drive(HasPile):
                [False,  True, False],
                [False, False, False]])
         """
-        sizes = np.empty(most_waves(self._shape, self._cylinder), np.int64)
-        room, before = _Room(np.empty(1, np.int64)), _NO_HEIGHTS
+        sizes: NDArray[np.int64] = np.empty(most_waves(self._shape, self._cylinder), np.int64)
+        room = _Room(np.empty(1, np.int64))
+        before: Heights = _NO_HEIGHTS
         is_random = site is None and row is None and column is None
 
         def asked() -> _Wanted:

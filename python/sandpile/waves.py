@@ -30,8 +30,8 @@ class Gathered:
 
     def __init__(self, most: int) -> None:
         self._most, self._drops, self._rows = most, 0, [np.empty(0, WAVE)]
-        self._room = np.empty((0, most), np.int64)
-        self._block = self._room  # what the library has filled last, a row for each drop
+        self._room: NDArray[np.int64] = np.empty((0, most), np.int64)
+        self._block: NDArray[np.int64] = self._room  # what the library has filled last, a row for each drop
 
     def room(self, drops: int) -> NDArray[np.int64]:
         """Where the library writes the sizes of the waves of the next block: a row for each drop, with zeros at its end."""
