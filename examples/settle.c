@@ -17,7 +17,10 @@ int main(void) {
 
     const size_t sites[DROPS] = {CENTRE, CENTRE, CENTRE, CENTRE};
     sandpile_avalanche avalanches[DROPS];
-    fault = sandpile_drop(SIDE, SIDE, false, heights, SITES, odometer, SITES, sites, DROPS, avalanches, DROPS);
+    sandpile_drive drive = {0};
+    fault = sandpile_drive_new(SIDE, SIDE, false, heights, SITES, &drive);
+    if (!fault) fault = sandpile_drive_drop(&drive, sites, DROPS, avalanches, DROPS);
+    sandpile_drive_free(&drive);
     if (fault) return (int)fault;
     for (int i = 0; i < DROPS; i++) {
         printf("drop %d: size %" PRIu64 ", area %" PRIu32 "\n", i + 1, avalanches[i].size, avalanches[i].area);

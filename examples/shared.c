@@ -99,9 +99,10 @@ static void settle(void) {
 static void drop_as_one_thread(void) {
     sandpile_drive drive = {0};
     sandpile_avalanche avalanches[LIST];
+    uint64_t drops;
     check(sandpile_drive_new(SIDE, SIDE, false, start, SITES, &drive));
     for (int i = 0; i < DROPS; i += LIST) check(sandpile_drive_drop(&drive, history + i, LIST, avalanches, LIST));
-    check(sandpile_drive_read(&drive, one.heights, SITES, one.odometer, SITES, &one.topplings, &one.lost));
+    check(sandpile_drive_read(&drive, one.heights, SITES, one.odometer, SITES, &one.topplings, &one.lost, &drops));
     sandpile_drive_free(&drive);
 }
 

@@ -109,14 +109,6 @@ uint32_t sandpile_settle_all(size_t width, size_t height, bool cylinder, uint64_
                              uint64_t *odometer, size_t odometer_length, uint64_t *lost, size_t lost_length,
                              uint64_t *topplings, size_t topplings_length);
 
-/* Settles a pile, then drops a grain at each site of `drops` in turn; each settles before the next. Writes the final
-   heights, how often each site toppled in this call (the first settling included), and an avalanche for each drop.
-   `heights_length` and `odometer_length` are width times height; `avalanches_length` is `drops_length`.
-   SIDE, NARROW, LENGTH, TOO_MANY_GRAINS, NO_SITE, FULL, MEMORY. */
-uint32_t sandpile_drop(size_t width, size_t height, bool cylinder, uint64_t *heights, size_t heights_length,
-                       uint64_t *odometer, size_t odometer_length, const size_t *drops, size_t drops_length,
-                       sandpile_avalanche *avalanches, size_t avalanches_length);
-
 /* Writes `sites_length` sites of a stream of random drops, without the first `from` sites of the stream. A stream consists of
    the 32-bit words of ChaCha8, each modulo the number of sites. The key is the seed's 8 bytes, the lowest first, and then 24
    zeros; the 64-bit nonce is `stream`, and the 64-bit block counter begins with 0. SIDE, NARROW. */
@@ -191,8 +183,8 @@ uint32_t sandpile_of_tree(size_t width, size_t height, bool cylinder, const uint
                           uint64_t *heights, size_t heights_length);
 
 /* Writes a random recurrent pile; each is as likely as any other. It is the pile of the tree that Wilson's algorithm (1996) makes
-   by walks from each site in turn. Each step has the direction of the stream's next word, modulo 4; the streams are those of
-   `sandpile_sites`. `heights_length` is width times height. SIDE, NARROW, LENGTH, MEMORY. */
+   by walks from each site in turn. Each step takes the next two bits of the stream's words, the lowest first, as its direction;
+   the streams are those of `sandpile_sites`. `heights_length` is width times height. SIDE, NARROW, LENGTH, MEMORY. */
 uint32_t sandpile_random(size_t width, size_t height, bool cylinder, uint64_t seed, uint64_t stream, uint64_t *heights,
                          size_t heights_length);
 
@@ -212,7 +204,8 @@ uint32_t sandpile_random(size_t width, size_t height, bool cylinder, uint64_t se
    A fork copies what handles hold, like all memory. Parent and child go on independently: neither sees the other's drops. */
 
 /* A driven pile: settled, and settled again after each drop. It takes about 42 bytes for each site, the sides rounded up
-   to multiples of 8. */
+   to multiples of 8. Three calls settle a pile, drop grains on it and write the result: `sandpile_drive_new`,
+   `sandpile_drive_drop` and `sandpile_drive_read`. */
 typedef struct sandpile_drive {
     void *at;
 } sandpile_drive;
@@ -229,14 +222,20 @@ uint32_t sandpile_drive_new(size_t width, size_t height, bool cylinder, const ui
 uint32_t sandpile_drive_drop(sandpile_drive *drive, const size_t *drops, size_t drops_length, sandpile_avalanche *avalanches,
                              size_t avalanches_length);
 
-/* The same, and writes how many sites topple in each wave of an avalanche: in a wave the site of the drop topples once, and
-   then each other site that this brings to 4, also once. An avalanche has as many waves as its first site has topplings.
-   `sizes` has a row for each drop: the sizes of its waves in order, and then zeros. A row has as many numbers as the greatest
-   distance of a site to the nearest open edge, counted from 1: (min(width, height) + 1) / 2, or (height + 1) / 2 on a
-   cylinder. No drop has more waves. `avalanches_length` is `drops_length`, and `sizes_length` is that times the length of a
-   row. The call needs no memory. EMPTY, LENGTH, NO_SITE, FULL. */
+/* A wave of a drop: the site of the drop topples once, and then each other site that this brings to 4, also once. */
+typedef struct sandpile_wave {
+    uint64_t number; /* of the drop, from 0 since `sandpile_drive_new` */
+    uint64_t wave;   /* which wave of the drop, from 0 */
+    uint64_t size;   /* sites that topple in it */
+} sandpile_wave;
+
+/* The same, and writes the waves of the first drop in order, then those of the next, and how many there are in all; `waves` does
+   not change behind them. A drop has as many waves as its site topples: at most the greatest distance of a site to the nearest
+   open edge, counted from 1, which is (min(width, height) + 1) / 2, or (height + 1) / 2 on a cylinder. `avalanches_length` is
+   `drops_length`, and `waves_length` is at least that times this distance. The call needs no memory. EMPTY, LENGTH, NO_SITE,
+   FULL. */
 uint32_t sandpile_drive_waves(sandpile_drive *drive, const size_t *drops, size_t drops_length, sandpile_avalanche *avalanches,
-                              size_t avalanches_length, uint64_t *sizes, size_t sizes_length);
+                              size_t avalanches_length, sandpile_wave *waves, size_t waves_length, size_t *count);
 
 /* Drops a grain at a site. Writes its avalanche, and how often each site topples in it. `topplings_length` is width times
    height. EMPTY, LENGTH, NO_SITE, FULL. */
@@ -244,10 +243,10 @@ uint32_t sandpile_drive_avalanche(sandpile_drive *drive, size_t site, sandpile_a
                                   size_t topplings_length);
 
 /* Writes the heights and, since `sandpile_drive_new` and with its settling, how often each site toppled, the number of
-   topplings and the grains lost. `heights_length` and `odometer_length` are each width times height, or 0 if that array is
-   not to be written. EMPTY, LENGTH. */
+   topplings and the grains lost; and how many grains have been dropped. `heights_length` and `odometer_length` are each width
+   times height, or 0 if that array is not to be written. EMPTY, LENGTH. */
 uint32_t sandpile_drive_read(const sandpile_drive *drive, uint64_t *heights, size_t heights_length, uint64_t *odometer,
-                             size_t odometer_length, uint64_t *topplings, uint64_t *lost);
+                             size_t odometer_length, uint64_t *topplings, uint64_t *lost, uint64_t *drops);
 
 /* Writes the height of a site and, since `sandpile_drive_new` and with its settling, how often it toppled. EMPTY, NO_SITE. */
 uint32_t sandpile_drive_site(const sandpile_drive *drive, size_t site, uint64_t *height, uint64_t *topplings);

@@ -71,11 +71,12 @@ class DriveHandle(Handle):
         # moment waits.
         return self._dropping
 
-    def read(self, heights: Heights, odometer: Heights) -> tuple[int, int]:
-        """Writes both arrays, unless they are empty. Returns the topplings and the lost grains."""
-        topplings, lost = ctypes.c_uint64(), ctypes.c_uint64()
-        call_on("drive_read", self.at, heights, odometer, ctypes.byref(topplings), ctypes.byref(lost))
-        return topplings.value, lost.value
+    def read(self, heights: Heights, odometer: Heights) -> tuple[int, int, int]:
+        """Writes both arrays, unless they are empty. Returns the topplings, the lost grains, and the drops made on this handle."""
+        sums = ctypes.c_uint64(), ctypes.c_uint64(), ctypes.c_uint64()
+        call_on("drive_read", self.at, heights, odometer, *map(ctypes.byref, sums))
+        topplings, lost, drops = sums
+        return topplings.value, lost.value, drops.value
 
     def site(self, number: int) -> tuple[int, int]:
         """The height of a site, and how often it has toppled."""

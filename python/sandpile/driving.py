@@ -8,8 +8,9 @@ from __future__ import annotations
 
 import ctypes
 import os
+from contextlib import nullcontext
 from pathlib import Path
-from typing import Any, Callable, Iterator, Literal, NamedTuple, Optional, SupportsIndex, Tuple, overload
+from typing import Any, Callable, ContextManager, Iterator, Literal, NamedTuple, Optional, SupportsIndex, Tuple, overload
 
 import numpy as np
 from numpy.typing import ArrayLike, NDArray
@@ -20,14 +21,16 @@ from ._handles import DriveHandle
 from ._library import call, call_at
 from .faults import Fault
 from .progress import Bar
-from .waves import Gathered, most_waves
+from .waves import WaveList, most_waves
 
 _MOST_GRAINS = 1_099_511_627_775
 # Limits of a block of drops, which Ctrl-C cannot interrupt: the number of drops, and drops times sites. The time of a
 # drop is at most proportional to the number of sites. A block takes a few tenths of a second on the largest grid, and less
 # on others.
 _MOST_IN_BLOCK, _WORK_IN_BLOCK = 8192, 1 << 27
-# For fewer drops, more random sites are drawn than are wanted, and memory is kept from one call to the next.
+# A block of drops may have at most so many waves, if they are wanted, so that the room for them stays in the cache.
+_WAVES_IN_BLOCK = 1 << 16
+# If fewer are wanted, so many random sites are drawn, and so much room for avalanches is kept from one call to the next.
 _FEW = 256
 # So few rows of a table are filled faster one by one.
 _ROW_BY_ROW = 4
@@ -39,72 +42,72 @@ _SITE = _AVALANCHE["site"].itemsize
 #: The type of the rows that `Drive.drop` returns, one for each drop.
 AVALANCHE = np.dtype([(name, "i8") for name in ("number", *(_AVALANCHE.names or ()))])
 
-# No site has this number. The library has made a block of drops once it has written another one over it.
-_NO_SITE = 2**64 - 1
 _NO_ROWS = np.empty(0, AVALANCHE)
 _NO_HEIGHTS = np.empty((0, 0), np.int64)
 _COUNT = np.arange(_MOST_IN_BLOCK, dtype=np.int64)
+_NO_SITES = np.empty(0, np.int64)
+_NO_BAR: ContextManager[Optional[Bar]] = nullcontext()
 
 # What a copy of a run does not take over.
-_OF_THIS_PROCESS = {"_handle", "_ahead", "_found", "_block", "_go_on"}
+_OF_THIS_PROCESS = {"_handle", "_before", "_asked", "_ahead", "_few", "_found", "_go_on"}
 
-
-class _Room:
-    """An array that the library reads or writes, its address, and its first word: NumPy is slow to tell either."""
-
-    def __init__(self, array: NDArray[Any]) -> None:
-        self.array, self.at = array, int(array.ctypes.data)
-        self.first = ctypes.c_uint64.from_address(self.at)
+# How many drops are wanted, and the address of the sites of those from one up to another.
+_Sites = Tuple[int, Callable[[int, int], int]]
+_Ask = Callable[[], _Sites]
+# Makes drops: of which handle, the address of their sites, how many, the address of their avalanches, and how many drops of
+# the call came before.
+_Make = Callable[[int, int, int, int, int], None]
 
 
 class _State(NamedTuple):
-    """What changes here as grains drop, in one step, so Ctrl-C can come at any time."""
+    """What changes as grains drop."""
 
     drops: int  # so far
     drawn: int  # of these, drops at sites of the stream
     table: NDArray[np.void]  # of the last call
 
 
-# Drops that the library makes: where it writes their avalanches, the row of the table where these begin, and the state once
-# they are made.
-_Block = Tuple[_Room, int, _State]
-# A call of the library: the export, and what it is given after the handle.
-_Call = Tuple[Any, ...]
-# The call that makes the drops from one up to another, and writes their avalanches at an address.
-_Called = Callable[[int, int, int], _Call]
-# How many drops are wanted, and what makes them.
-_Wanted = Tuple[int, _Called]
-# How many drops are wanted, and where the sites are of those from one up to another.
-_Places = Tuple[int, Callable[[int, int], int]]
+class _Asked:
+    """The drops of a call, and how many of them are known to be made: so many rows of the table are filled."""
+
+    def __init__(self, first: int, drawn: int, draws: bool, table: NDArray[np.void], made: int = 0) -> None:
+        self.first, self.drawn = first, drawn  # drops before this call, and how many of them were at sites of the stream
+        self.draws, self.table, self.made = draws, table, made
+
+    def state(self) -> _State:
+        table = self.table if self.made == len(self.table) else self.table[: self.made]
+        return _State(self.first + self.made, self.drawn + self.made * self.draws, table)
+
+    def fill(self, made: int, found: NDArray[np.void]) -> None:
+        """Fills the rows up to one with the avalanches that the library has found last. Ctrl-C can come at any time."""
+        begin, first = self.made, self.first + self.made
+        if made - begin > _ROW_BY_ROW:
+            _fill_columns(self.table[begin:made], first, found)
+        else:
+            for at in range(made - begin):
+                self.table[begin + at] = (first + at, *found.item(at))
+        self.made = made
 
 
-def _drop(sites: int, n: int, found: int) -> _Call:
-    """The call that drops a grain at each of the `n` sites at an address."""
-    return "sandpile_drive_drop", sites, n, found, n
+def _fill_columns(rows: NDArray[np.void], first: int, found: NDArray[np.void]) -> None:
+    rows["number"] = _COUNT[: len(rows)] + first
+    for name in found.dtype.names or ():
+        rows[name] = found[name][: len(rows)]
 
 
-def _avalanche(site: int, found: int, topplings: int, sites: int) -> _Call:
-    """The call that drops a grain at a site, and writes the topplings of each of the `sites` at an address."""
-    return "sandpile_drive_avalanche", site, found, topplings, sites
+def _drop(at: int, sites: int, n: int, found: int, _: int) -> None:
+    call_at("sandpile_drive_drop", at, sites, n, found, n)
 
 
-def _drop_in_waves(sites: int, n: int, found: int, sizes: NDArray[np.int64]) -> _Call:
-    """The call that drops a grain at each of the `n` sites at an address, and writes the sizes of all waves."""
-    return "sandpile_drive_waves", sites, n, found, n, sizes.ctypes.data, sizes.size
+def _room(n: int) -> tuple[NDArray[np.void], int]:
+    """Room for the avalanches of `n` drops, and its address, which NumPy is slow to tell."""
+    room = new_array(n, _AVALANCHE, f"the avalanches of {n} drops")
+    return room, room.ctypes.data
 
 
-def _site_in(address: int) -> int:
-    """The site at an address."""
-    return ctypes.c_int64.from_address(address).value
-
-
-def _block(run: Drive, block: _Block, name: str, *arguments: Any) -> None:
-    """Makes a block of drops."""
-    handle = run._handle
-    with handle.use:
-        run._block = block
-        call_at(name, handle.at, *arguments)
-        run._now()
+def _listed(sites: NDArray[np.int64]) -> _Sites:
+    at = sites.ctypes.data
+    return sites.size, lambda begin, _: at + begin * sites.itemsize
 
 
 class Drive(HasPile):
@@ -177,39 +180,36 @@ class Drive(HasPile):
     ) -> None:
         heights, self._cylinder = heights_and_edge(pile, cylinder)
         self._seed, self._stream = seed_of(seed), count_of(stream, "stream")
-        self._hold(heights)
         self._start_grains = int(heights.sum())
-        self._state = _State(0, 0, _NO_ROWS)
+        self._hold(heights, _State(0, 0, _NO_ROWS))
 
-    def _hold(self, given: Heights) -> None:
-        """Makes the library hold a pile that was given these grains."""
+    def _hold(self, given: Heights, state: _State) -> None:
+        """Makes the library hold a pile that was given these grains, in all drops so far and in those of the table."""
         self._handle, self._shape = DriveHandle(given, self._cylinder), given.shape
-        self._sites = given.size
         self._most = min(_MOST_IN_BLOCK, _WORK_IN_BLOCK // given.size)  # drops in a block
-        self._ahead = (0, _Room(np.empty(0, np.int64)))  # a place in the stream, and the sites from there on
-        self._found = _Room(np.empty(_FEW, _AVALANCHE))
-        self._block: Optional[_Block] = None  # the last one, unless it is known to be made
+        self._ahead = (0, _NO_SITES, 0)  # a place in the stream, the sites from there on, and their address
+        self._few = self._found = _room(_FEW)  # the avalanches of the last block, and their address
         self._go_on: Optional[Callable[[], None]] = None  # called before each block; may raise an error
+        self._continue(state)
 
-    def _now(self) -> _State:
-        """The state, in which a block counts that was made just before Ctrl-C came. Only under `use` of the handle."""
-        if self._block is not None:
-            found, begin, after = self._block
-            if found.first.value != _NO_SITE:
-                _fill(after, begin, found.array)
-                self._state = after
-                self._block = None
-        return self._state
+    def _continue(self, state: _State) -> None:
+        """Takes up a state, of which the handle has made no drops."""
+        rows = len(state.table)
+        self._before = state.drops
+        self._asked = _Asked(state.drops - rows, state.drawn, False, state.table, rows)
 
     def _current(self) -> _State:
         with self._handle.use:
-            return self._now()
+            asked = self._asked
+            return asked.state() if asked.made == len(asked.table) else self._read()[2]
 
     def _read(self, pile: Heights = _NO_HEIGHTS, odometer: Heights = _NO_HEIGHTS) -> tuple[int, int, _State]:
         """Writes the pile and the odometer, unless they are empty, as of one time. Returns the topplings, the lost grains and the
-        state."""
+        state. The library tells how many drops are made, if Ctrl-C came before that was noted here."""
         with self._handle.use:
-            return (*self._handle.read(pile, odometer), self._now())
+            topplings, lost, drops = self._handle.read(pile, odometer)
+            self._asked.fill(self._before + drops - self._asked.first, self._found[0])
+            return topplings, lost, self._asked.state()
 
     @property
     def pile(self) -> Heights:
@@ -380,61 +380,42 @@ class Drive(HasPile):
         >>> sizes["number"], sizes["wave"], sizes["size"]
         (array([0, 4]), array([0, 0]), array([1, 1]))
         """
-        if odometers or waves:
-            return self._with_more(
-                lambda: (count_of(n, "n"), lambda begin, end: self._draw(end - begin)), progress, True, odometers, waves
-            )
-        return self._drop(self._at_random(n), progress, draws=True)
+        return self._drop_all(lambda: (count_of(n, "n"), self._draw), True, progress, odometers, waves)
 
-    def _at_random(self, n: SupportsIndex) -> Callable[[], _Wanted]:
-        """Checks `n`, and makes so many drops at random sites."""
-
-        def asked() -> _Wanted:
-            return count_of(n, "n"), lambda begin, end, found: _drop(self._draw(end - begin), end - begin, found)
-
-        return asked
-
-    def _next_block(self, most: int) -> NDArray[np.void]:
-        """Makes a block of at most so many drops at random sites. Only under the lock for drops."""
-        return self._make_all(self._at_random(min(most, self._most)), False, True, self._most)
-
-    def _with_more(
-        self, ask: Callable[[], _Places], progress: bool, draws: bool, odometers: bool, waves: bool
-    ) -> tuple[NDArray[np.void], NDArray[Any]]:
-        """Makes the drops that `ask` returns when it has checked the arguments, and returns the table with one thing more."""
+    def _drop_all(self, ask: _Ask, draws: bool, progress: bool, odometers: bool, waves: bool) -> Any:
         if odometers and waves:
             raise TypeError("a drop returns odometers or waves; a copy of the run makes the same drops again")
-        return (self._with_odometers if odometers else self._with_waves)(ask, progress, draws)
+        if odometers:
+            return self._with_odometers(ask, draws, progress)
+        return self._with_waves(ask, draws, progress) if waves else self._drop(ask, draws, progress)
 
-    def _with_waves(
-        self, ask: Callable[[], _Places], progress: bool, draws: bool
-    ) -> tuple[NDArray[np.void], NDArray[np.void]]:
-        gathered = Gathered(most_waves(self._shape, self._cylinder))
+    def _with_waves(self, ask: _Ask, draws: bool, progress: bool = False) -> tuple[NDArray[np.void], NDArray[np.void]]:
+        each = most_waves(self._shape, self._cylinder)
+        found, most = WaveList(each), min(self._most, _WAVES_IN_BLOCK // each)
 
-        def asked() -> _Wanted:
-            drops, place = ask()
-            return drops, lambda begin, end, found: _drop_in_waves(
-                place(begin, end), end - begin, found, gathered.room(end - begin)
-            )
+        def make(at: int, sites: int, n: int, avalanches: int, _: int) -> None:
+            call_at("sandpile_drive_waves", at, sites, n, avalanches, n, *found.room(n))
+            found.keep()
 
-        table = self._drop(asked, progress, draws)
-        return table, gathered.of(table)
+        return self._drop(ask, draws, progress, make, most), found.all(self._before)
 
-    def _with_odometers(
-        self, ask: Callable[[], _Places], progress: bool, draws: bool
-    ) -> tuple[NDArray[np.void], Heights]:
+    def _with_odometers(self, ask: _Ask, draws: bool, progress: bool = False) -> tuple[NDArray[np.void], Heights]:
         topplings: Heights = _NO_HEIGHTS
+        first, counts = 0, self._shape[0] * self._shape[1]
 
-        def asked() -> _Wanted:
-            nonlocal topplings
-            drops, place = ask()
+        def asked() -> _Sites:
+            nonlocal topplings, first
+            drops, sites = ask()
             self._check_grains(drops)
             topplings = new_array((drops, *self._shape), np.int64, f"the topplings of {drops} drops")
-            at, sites = topplings.ctypes.data, self._sites
-            step = sites * topplings.itemsize
-            return drops, lambda begin, end, found: _avalanche(_site_in(place(begin, end)), found, at + begin * step, sites)
+            first = topplings.ctypes.data
+            return drops, sites
 
-        return self._drop(asked, progress, draws, most=1), topplings
+        def make(at: int, sites: int, _: int, found: int, begin: int) -> None:
+            site, to = ctypes.c_int64.from_address(sites).value, first + begin * counts * topplings.itemsize
+            call_at("sandpile_drive_avalanche", at, site, found, to, counts)
+
+        return self._drop(asked, draws, progress, make, most=1), topplings
 
     @overload
     def blocks(
@@ -571,17 +552,18 @@ class Drive(HasPile):
                [[0, 0, 0]]])
         """
 
-        def places() -> _Places:
-            room = _Room(sites_at(sites, rows, columns, self._shape))
-            return room.array.size, lambda begin, _: room.at + begin * _SITE
+        return self._drop_all(lambda: _listed(sites_at(sites, rows, columns, self._shape)), False, False, odometers, waves)
 
-        def asked() -> _Wanted:
-            n, place = places()
-            return n, lambda begin, end, found: _drop(place(begin, end), end - begin, found)
+    def _at(self, site: Any, row: Any, column: Any) -> tuple[_Ask, bool]:
+        """One drop at a site, or at the next random one if none is given, and whether it is random."""
+        if site is None and row is None and column is None:
+            return lambda: (1, self._draw), True
 
-        if odometers or waves:
-            return self._with_more(places, False, False, odometers, waves)
-        return self._drop(asked, progress=False, draws=False)
+        def one() -> _Sites:
+            place = ctypes.c_int64(site_at(site, row, column, self._shape))
+            return 1, lambda _, __: ctypes.addressof(place)
+
+        return one, False
 
     def avalanche(
         self, site: SupportsIndex | None = None, *, row: SupportsIndex | None = None, column: SupportsIndex | None = None
@@ -619,14 +601,8 @@ class Drive(HasPile):
         >>> int(row["size"]), int(row["reach"]), topplings
         (2, 1, array([[1, 1, 0]]))
         """
-        topplings = np.empty(self._shape, np.int64)
-        is_random = site is None and row is None and column is None
-
-        def asked() -> _Wanted:
-            at = self._next_site() if is_random else site_at(site, row, column, self._shape)
-            return 1, lambda _, __, found: _avalanche(at, found, topplings.ctypes.data, topplings.size)
-
-        return self._drop(asked, progress=False, draws=is_random)[0], topplings
+        table, topplings = self._with_odometers(*self._at(site, row, column))
+        return table[0], topplings[0]
 
     def waves(
         self, site: SupportsIndex | None = None, *, row: SupportsIndex | None = None, column: SupportsIndex | None = None
@@ -688,98 +664,78 @@ class Drive(HasPile):
                [False,  True, False],
                [False, False, False]])
         """
-        sizes: NDArray[np.int64] = np.empty(most_waves(self._shape, self._cylinder), np.int64)
-        room = _Room(np.empty(1, np.int64))
+        ask, draws = self._at(site, row, column)
         before: Heights = _NO_HEIGHTS
-        is_random = site is None and row is None and column is None
 
-        def asked() -> _Wanted:
+        def asked() -> _Sites:
             nonlocal before
-            room.array[0] = self._next_site() if is_random else site_at(site, row, column, self._shape)
+            wanted = ask()
             before = self.pile
-            return 1, lambda _, __, found: _drop_in_waves(room.at, 1, found, sizes)
+            return wanted
 
-        avalanche = self._drop(asked, progress=False, draws=is_random)[0]
-        sizes = sizes[: np.count_nonzero(sizes)]
-        return avalanche, sizes, _waves.masks(before, int(room.array[0]), self._cylinder, sizes)
+        table, found = self._with_waves(asked, draws)
+        sizes = found["size"].copy()
+        return table[0], sizes, _waves.masks(before, int(table["site"][0]), self._cylinder, sizes)
 
     def _drop(
-        self, ask: Callable[[], _Wanted], progress: bool, draws: bool, most: Optional[int] = None
+        self, ask: _Ask, draws: bool, progress: bool = False, make: _Make = _drop, most: int | None = None
     ) -> NDArray[np.void]:
         """Makes the drops that `ask` returns when it has checked the arguments, in blocks of at most `most` if it is given."""
         with self._handle.dropping():
-            return self._make_all(ask, progress, draws, most or self._most)
+            return self._make_all(ask, draws, progress, make, most or self._most)
 
-    def _make_all(self, ask: Callable[[], _Wanted], progress: bool, draws: bool, most: int) -> NDArray[np.void]:
-        n, called, table = self._begun(ask)
-        if progress:
-            with Bar(n) as bar:
-                self._make(called, table, draws, most, bar.show)
-        else:
-            self._make(called, table, draws, most)
-        return self._state.table
+    def _next_block(self, most: int) -> NDArray[np.void]:
+        """Makes a block of at most so many drops at random sites. Only under the lock for drops."""
+        return self._make_all(lambda: (min(most, self._most), self._draw), True, False, _drop, self._most)
 
-    def _make(
-        self,
-        called: _Called,
-        table: NDArray[np.void],
-        draws: bool,
-        most: int,
-        show: Optional[Callable[[int], None]] = None,
-    ) -> None:
-        """Makes the drops of a table, block after block."""
-        n = len(table)
-        for begin in range(0, n, most):
-            end = min(begin + most, n)
-            if self._go_on:
-                self._go_on()
-            found = self._room(end - begin)
-            _block(self, self._made(found, table, begin, end, draws), *called(begin, end, found.at))
-            if show:
-                show(end)
+    def _make_all(self, ask: _Ask, draws: bool, progress: bool, make: _Make, most: int) -> NDArray[np.void]:
+        sites = self._begun(ask, draws, most)
+        asked, handle, (found, at) = self._asked, self._handle, self._found
+        n = len(asked.table)
+        with Bar(n) if progress else _NO_BAR as bar:
+            for begin in range(0, n, most):
+                end = min(begin + most, n)
+                if self._go_on:
+                    self._go_on()
+                place = sites(begin, end)
+                with handle.use:
+                    make(handle.at, place, end - begin, at, begin)
+                    asked.fill(end, found)
+                if bar:
+                    bar.show(end)
+        return asked.table
 
-    def _begun(self, ask: Callable[[], _Wanted]) -> tuple[int, _Called, NDArray[np.void]]:
-        """What `ask` returns, and the table to fill. From here on, Ctrl-C leaves no row of the call before; a refused
-        call changes nothing."""
+    def _begun(self, ask: _Ask, draws: bool, most: int) -> Callable[[int, int], int]:
+        """Makes a table for the drops that `ask` returns, and returns where their sites are. From here on, Ctrl-C leaves no row of
+        the call before; a refused call changes nothing."""
         with self._handle.use:
-            was, self._block = self._now(), None
-            self._state = _State(was.drops, was.drawn, _NO_ROWS)
+            now, was = self._current(), self._asked
+            self._asked = _Asked(now.drops, now.drawn, draws, _NO_ROWS)
         try:
-            n, called = ask()
+            n, sites = ask()
             self._check_grains(n)
-            return n, called, new_array(n, AVALANCHE, f"a table of {n} drops")
+            table = new_array(n, AVALANCHE, f"a table of {n} drops")
+            self._found = self._few if min(n, most) <= _FEW else _room(min(n, most))
+            self._asked = _Asked(now.drops, now.drawn, draws, table)
+            return sites
         except Exception:
-            self._state = was
+            self._asked = was
             raise
 
     def _check_grains(self, n: int) -> None:
         """Refuses `n` more drops if they exceed the limit of grains."""
-        if self._start_grains + self._state.drops + n > _MOST_GRAINS:
+        if self._start_grains + self._asked.first + self._asked.made + n > _MOST_GRAINS:
             raise Fault(6)
 
-    def _next_site(self) -> int:
-        """The next site of the stream. The drop there is yet to be made."""
-        return _site_in(self._draw(1))
-
-    def _draw(self, n: int) -> int:
-        """The address of the next `n` sites of the stream, after those used so far."""
-        (first, room), drawn = self._ahead, self._state.drawn
-        if not first <= drawn <= drawn + n <= first + room.array.size:
-            first, room = drawn, _Room(np.empty(max(n, _FEW), np.int64))
-            call("sites", self._shape, self._cylinder, self._seed, self._stream, first, room.array)
-            self._ahead = first, room
-        return room.at + (drawn - first) * _SITE
-
-    def _room(self, n: int) -> _Room:
-        """Where the library writes the avalanches of `n` drops."""
-        room = self._found if n <= _FEW else _Room(np.empty(n, _AVALANCHE))
-        room.first.value = _NO_SITE
-        return room
-
-    def _made(self, found: _Room, table: NDArray[np.void], begin: int, end: int, draws: bool) -> _Block:
-        """What a block of drops will have changed."""
-        was, n = self._state, end - begin
-        return found, begin, _State(was.drops + n, was.drawn + n if draws else was.drawn, table[:end])
+    def _draw(self, begin: int, end: int) -> int:
+        """The address of the sites of the stream at which a call makes its drops from one up to another."""
+        (first, sites, at), drawn, n = self._ahead, self._asked.drawn + begin, end - begin
+        if not first <= drawn <= drawn + n <= first + sites.size:
+            first, sites = drawn, np.empty(max(n, _FEW), np.int64)
+            call("sites", self._shape, self._cylinder, self._seed, self._stream, first, sites)
+            at = sites.ctypes.data
+            self._ahead = first, sites, at
+        return at + (drawn - first) * _SITE
 
     def __getstate__(self) -> dict[str, Any]:
         """All but the handle, locks and rooms for the library: a copy has its own. Its handle is made of the grains that were
@@ -789,9 +745,9 @@ class Drive(HasPile):
         return {**kept, "_state": state, "_given": saved.given()}
 
     def __setstate__(self, kept: dict[str, Any]) -> None:
-        given = kept.pop("_given")
+        given, state = kept.pop("_given"), kept.pop("_state")
         vars(self).update(kept)
-        self._hold(given)
+        self._hold(given, state)
 
     def _saved(self) -> tuple[_saves.Saved, _State]:
         """What a file keeps of the run, and the state at that time."""
@@ -860,7 +816,7 @@ class Drive(HasPile):
     def _of(cls, saved: _saves.Saved) -> Drive:
         run = cls(saved.given(), saved.seed, saved.stream, bool(saved.cylinder))
         run._start_grains = saved.start_grains
-        run._state = _State(saved.drops, saved.drawn, _NO_ROWS)
+        run._continue(_State(saved.drops, saved.drawn, _NO_ROWS))
         return run
 
     def _go_to(self, saved: _saves.Saved) -> None:
@@ -872,7 +828,7 @@ class Drive(HasPile):
         with was.use:
             # Both locks stay, since other threads may wait for them. In one step, so Ctrl-C can come at any time.
             again._handle.use, again._handle._dropping = was.use, was._dropping
-            vars(self).update({name: vars(again)[name] for name in (*_OF_THIS_PROCESS, "_state")})
+            vars(self).update({name: vars(again)[name] for name in _OF_THIS_PROCESS})
 
     def record(
         self,
@@ -955,21 +911,3 @@ class Drive(HasPile):
         height, width = self._shape
         edge = ", cylinder" if self._cylinder else ""
         return f"<Drive: {height} by {width}{edge}, seed {self._seed}, stream {self._stream}, {self.drops} drops>"
-
-
-def _fill(state: _State, begin: int, found: NDArray[np.void]) -> None:
-    """Fills the table of a state from a row on with the avalanches that the library has found."""
-    table = state.table
-    n = len(table) - begin
-    first = state.drops - n
-    if n > _ROW_BY_ROW:
-        _fill_columns(table[begin:], first, found[:n])
-        return
-    for at in range(n):
-        table[begin + at] = (first + at, *found.item(at))
-
-
-def _fill_columns(rows: NDArray[np.void], first: int, found: NDArray[np.void]) -> None:
-    rows["number"] = _COUNT[: len(rows)] + first
-    for name in found.dtype.names or ():
-        rows[name] = found[name]

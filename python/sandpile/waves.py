@@ -7,7 +7,9 @@ the drop then has four grains again, another wave follows. An avalanche topples 
 
 from __future__ import annotations
 
+import ctypes
 import functools
+from typing import Any
 
 import numpy as np
 from numpy.typing import NDArray
@@ -15,8 +17,9 @@ from numpy.typing import NDArray
 from ._arrays import Heights, listed, new_array
 from ._grid import neighbours
 
+_NUMBERS = ("number", "wave", "size")
 #: The type of the rows of the waves that `Drive.drop` returns, one for each wave.
-WAVE = np.dtype([(name, "i8") for name in ("number", "wave", "size")])
+WAVE = np.dtype([(name, "i8") for name in _NUMBERS])
 
 
 def most_waves(shape: tuple[int, ...], cylinder: bool) -> int:
@@ -25,37 +28,32 @@ def most_waves(shape: tuple[int, ...], cylinder: bool) -> int:
     return (height + 1) // 2 if cylinder else (min(height, width) + 1) // 2
 
 
-class Gathered:
-    """The waves of blocks of drops, each of which has at most so many."""
+class WaveList:
+    """The waves of blocks of drops, each of which has at most so many, one block after another."""
 
     def __init__(self, most: int) -> None:
-        self._most, self._drops, self._rows = most, 0, [np.empty(0, WAVE)]
-        self._room: NDArray[np.int64] = np.empty((0, most), np.int64)
-        self._block: NDArray[np.int64] = self._room  # what the library has filled last, a row for each drop
+        self._most, self._count = most, ctypes.c_size_t()
+        # NumPy copies integers several times as fast as rows of this type.
+        self._room: NDArray[np.int64] = np.empty((0, len(_NUMBERS)), np.int64)
+        self._parts = [self._room]
 
-    def room(self, drops: int) -> NDArray[np.int64]:
-        """Where the library writes the sizes of the waves of the next block: a row for each drop, with zeros at its end."""
-        self._take()
-        if len(self._room) < drops:
-            self._room = new_array((drops, self._most), np.int64, f"the waves of {drops} drops")
-        self._block = self._room[:drops]
-        return self._block
+    def room(self, drops: int) -> tuple[int, int, Any]:
+        """Where the library writes the waves of the next block, how many have room there, and where it writes how many there are."""
+        needed = drops * self._most
+        if len(self._room) < needed:
+            self._room = new_array((needed, len(_NUMBERS)), np.int64, f"the waves of {drops} drops")
+        return self._room.ctypes.data, needed, ctypes.byref(self._count)
 
-    def of(self, table: NDArray[np.void]) -> NDArray[np.void]:
-        """The waves of all blocks, whose drops have this table."""
-        self._take()
-        rows = np.concatenate(self._rows)
-        if len(table):
-            rows["number"] += table["number"][0]
-        return rows
+    def keep(self) -> None:
+        """Keeps what the library has written."""
+        self._parts.append(self._room[: self._count.value].copy())
 
-    def _take(self) -> None:
-        at = np.flatnonzero(self._block != 0)  # NumPy finds what is True faster than what is not 0
-        drop, rows = at // self._most, np.empty(at.size, WAVE)
-        rows["number"], rows["wave"] = drop + self._drops, at - drop * self._most
-        rows["size"] = self._block.ravel()[at]
-        self._rows.append(rows)
-        self._drops += len(self._block)
+    def all(self, before: int) -> NDArray[np.void]:
+        """The waves of all blocks. So many drops were made before those that the library counts."""
+        waves = np.concatenate(self._parts).ravel().view(WAVE)
+        if before:
+            waves["number"] += before
+        return waves
 
 
 def masks(pile: Heights, site: int, cylinder: bool, sizes: NDArray[np.int64]) -> NDArray[np.bool_]:

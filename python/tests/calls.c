@@ -79,18 +79,6 @@ static void settle_all_faults(void) {
     }
 }
 
-/* 3 by 3 of all 3. The grain in the middle topples it, then the four sides, then the corners, which have 5 by then, and then
-   the middle again, which has 4. A side loses one grain, a corner two. The grain on the second site topples only this site. */
-static void drop(void) {
-    uint64_t heights[9] = {3, 3, 3, 3, 3, 3, 3, 3, 3}, odometer[9] = {0};
-    const uint64_t settled[9] = {2, 0, 2, 3, 1, 3, 1, 3, 1}, toppled[9] = {1, 2, 1, 1, 2, 1, 1, 1, 1};
-    const size_t sites[2] = {4, 1};
-    sandpile_avalanche a[2];
-    assert(sandpile_drop(3, 3, false, heights, 9, odometer, 9, sites, 2, a, 2) == 0);
-    assert(ARE_EQUAL(heights, settled) && ARE_EQUAL(odometer, toppled));
-    assert(is_avalanche(a[0], 4, 10, 9, 2, 12) && is_avalanche(a[1], 1, 1, 1, 0, 1));
-}
-
 /* The published keystreams of ChaCha8 begin 3e00ef2f 895f40d6 7f5bb8e8 if key and nonce are 0, go on with d2aefa0d eaa5c151
    in the second block of 16 words, and begin cf5ee9a0 494aa961 if the key has a 1 in front, and 2b8f4bb3 798306ca if the nonce
    has. The first byte of a word is its lowest, so it is the site of 256 in a row. The last row is by another program. */
@@ -174,11 +162,12 @@ static void tree_faults(void) {
     }
 }
 
-/* The keystream of key and nonce 0 (see `sites`) goes on with 1f09a5a1 2c840ec3. So the words modulo 4 are 2, 1, 3, 3 and 0. The
-   first walk goes east, back to the west, and south into the sink; the second one goes south, and the third one north. That is
-   the tree 3 3 0: of the first site three edges lead to the sink, and two come before its own, so that it has 4 - 3 + 2 grains. */
+/* The keystream of key and nonce 0 (see `sites`) begins with the byte 3e, whose pairs of bits, from the lowest on, are 2, 3, 3 and
+   0. The first walk goes east and south into the sink, and the second one, from the last site, south. That is the tree 2 3 3 of
+   depths 2 1 1: all edges of the first site lead to what is less deep, and none to depth 1 comes before its own, so that it has
+   4 - 4 grains. */
 static void random_pile(void) {
-    const uint64_t pile[3] = {3, 3, 1};
+    const uint64_t pile[3] = {0, 3, 3};
     uint64_t heights[3] = {7, 7, 7};
     assert(sandpile_random(3, 1, false, 0, 0, heights, 3) == 0 && ARE_EQUAL(heights, pile));
 }
@@ -247,41 +236,51 @@ static void superstable(void) {
     }
 }
 
-/* 7 2 3 above 2 3 3 and 3 3 3: the first site topples, and all have 3. Then the drops and avalanches are those of `drop`. */
+/* 7 2 3 above 2 3 3 and 3 3 3: the first site topples, and all have 3. The grain in the middle topples it, then the four sides,
+   then the corners, which have 5 by then, and then the middle again, which has 4. A side loses one grain, a corner two. The
+   grain on the second site topples only this site. */
 static void drive(void) {
     const uint64_t start[9] = {7, 2, 3, 2, 3, 3, 3, 3, 3}, full[9] = {3, 3, 3, 3, 3, 3, 3, 3, 3};
     const uint64_t settled[9] = {2, 0, 2, 3, 1, 3, 1, 3, 1}, toppled[9] = {2, 2, 1, 1, 2, 1, 1, 1, 1};
-    uint64_t heights[9] = {0}, odometer[9] = {0}, topplings = 7, lost = 7;
+    uint64_t heights[9] = {0}, odometer[9] = {0}, topplings = 7, lost = 7, drops = 7;
     const size_t sites[2] = {4, 1};
     sandpile_avalanche a[2];
     sandpile_drive driven = {0};
     assert(sandpile_drive_new(3, 3, false, start, 9, &driven) == 0);
-    assert(sandpile_drive_read(&driven, heights, 9, odometer, 0, &topplings, &lost) == 0);
-    assert(ARE_EQUAL(heights, full) && topplings == 1 && lost == 2);
+    assert(sandpile_drive_read(&driven, heights, 9, odometer, 0, &topplings, &lost, &drops) == 0);
+    assert(ARE_EQUAL(heights, full) && topplings == 1 && lost == 2 && drops == 0);
     assert(sandpile_drive_drop(&driven, sites, 2, a, 2) == 0);
     assert(is_avalanche(a[0], 4, 10, 9, 2, 12) && is_avalanche(a[1], 1, 1, 1, 0, 1));
-    assert(sandpile_drive_read(&driven, heights, 9, odometer, 9, &topplings, &lost) == 0);
-    assert(ARE_EQUAL(heights, settled) && ARE_EQUAL(odometer, toppled) && topplings == 12 && lost == 15);
+    assert(sandpile_drive_read(&driven, heights, 9, odometer, 9, &topplings, &lost, &drops) == 0);
+    assert(ARE_EQUAL(heights, settled) && ARE_EQUAL(odometer, toppled) && topplings == 12 && lost == 15 && drops == 2);
     sandpile_drive_free(&driven);
     assert(!driven.at);
 }
 
-/* The drops of `drop`, and one that topples nothing. In the first wave of the first drop all sites topple, and in the second
+static bool is_wave(sandpile_wave a, uint64_t number, uint64_t wave, uint64_t size) {
+    return a.number == number && a.wave == wave && a.size == size;
+}
+
+/* The drops of `drive`, and one that topples nothing. In the first wave of the first drop all sites topple, and in the second
    one the middle alone. On a cylinder the first wave is the same, and the second one is the middle and the two sites next to
-   it. A row has two numbers. */
+   it. The outer rows then have 3 3 3, and a grain on one of them topples that row. A drop has at most two waves. */
 static void waves(void) {
-    const uint64_t start[9] = {3, 3, 3, 3, 3, 3, 3, 3, 3}, open[6] = {9, 1, 1, 0, 0, 0}, joined[2] = {9, 3};
+    const uint64_t start[9] = {3, 3, 3, 3, 3, 3, 3, 3, 3};
     const size_t drops[3] = {4, 1, 0};
-    uint64_t sizes[6] = {7, 7, 7, 7, 7, 7}, row[2] = {7, 7};
+    sandpile_wave found[6] = {{7, 7, 7}, {7, 7, 7}, {7, 7, 7}, {7, 7, 7}, {7, 7, 7}, {7, 7, 7}};
+    size_t count = 7;
     sandpile_avalanche a[3];
     sandpile_drive driven = {0};
     assert(sandpile_drive_new(3, 3, false, start, 9, &driven) == 0);
-    assert(sandpile_drive_waves(&driven, drops, 3, a, 3, sizes, 6) == 0 && ARE_EQUAL(sizes, open));
+    assert(sandpile_drive_waves(&driven, drops, 3, a, 3, found, 6, &count) == 0 && count == 3);
+    assert(is_wave(found[0], 0, 0, 9) && is_wave(found[1], 0, 1, 1) && is_wave(found[2], 1, 0, 1) && is_wave(found[3], 7, 7, 7));
     assert(is_avalanche(a[0], 4, 10, 9, 2, 12) && is_avalanche(a[1], 1, 1, 1, 0, 1) && is_avalanche(a[2], 0, 0, 0, 0, 0));
     sandpile_drive_free(&driven);
     assert(sandpile_drive_new(3, 3, true, start, 9, &driven) == 0);
-    assert(sandpile_drive_waves(&driven, drops, 1, a, 1, row, 2) == 0 && ARE_EQUAL(row, joined));
-    assert(is_avalanche(a[0], 4, 12, 9, 2, 6));
+    assert(sandpile_drive_waves(&driven, drops, 1, a, 1, found, 2, &count) == 0 && count == 2);
+    assert(is_wave(found[0], 0, 0, 9) && is_wave(found[1], 0, 1, 3) && is_avalanche(a[0], 4, 12, 9, 2, 6));
+    assert(sandpile_drive_waves(&driven, drops + 1, 1, a, 1, found, 3, &count) == 0 && count == 1);
+    assert(is_wave(found[0], 1, 0, 3) && is_wave(found[1], 0, 1, 3) && is_avalanche(a[0], 1, 3, 3, 1, 3));
     sandpile_drive_free(&driven);
 }
 
@@ -290,14 +289,14 @@ static void waves(void) {
 static void avalanche(void) {
     const uint64_t start[9] = {3, 3, 3, 3, 3, 3, 3, 3, 3}, settled[9] = {3, 3, 3, 1, 2, 1, 3, 3, 3};
     const uint64_t toppled[9] = {1, 1, 1, 2, 2, 2, 1, 1, 1};
-    uint64_t heights[9] = {0}, counts[9] = {0}, topplings = 7, lost = 7;
+    uint64_t heights[9] = {0}, counts[9] = {0}, topplings = 7, lost = 7, drops = 7;
     sandpile_avalanche a;
     sandpile_drive driven = {0};
     assert(sandpile_drive_new(3, 3, true, start, 9, &driven) == 0);
     assert(sandpile_drive_avalanche(&driven, 4, &a, counts, 9) == 0);
     assert(is_avalanche(a, 4, 12, 9, 2, 6) && ARE_EQUAL(counts, toppled));
-    assert(sandpile_drive_read(&driven, heights, 9, counts, 0, &topplings, &lost) == 0);
-    assert(ARE_EQUAL(heights, settled) && topplings == 12 && lost == 6);
+    assert(sandpile_drive_read(&driven, heights, 9, counts, 0, &topplings, &lost, &drops) == 0);
+    assert(ARE_EQUAL(heights, settled) && topplings == 12 && lost == 6 && drops == 1);
     sandpile_drive_free(&driven);
 }
 
@@ -308,7 +307,7 @@ static void avalanche(void) {
 static void avalanches(void) {
     const uint64_t start[9] = {3, 3, 3, 1, 2, 1, 3, 3, 3}, settled[9] = {3, 0, 3, 2, 2, 2, 2, 3, 2};
     const uint64_t none[9] = {0}, above[9] = {0, 1}, toppled[9] = {1, 2, 1, 1, 2, 1, 1, 1, 1};
-    uint64_t heights[9] = {0}, counts[9], odometer[9] = {0}, topplings = 7, lost = 7;
+    uint64_t heights[9] = {0}, counts[9], odometer[9] = {0}, topplings = 7, lost = 7, drops = 7;
     const size_t middle = 4;
     sandpile_avalanche a;
     sandpile_drive driven = {0};
@@ -321,8 +320,8 @@ static void avalanches(void) {
     }
     assert(sandpile_drive_avalanche(&driven, 1, &a, counts, 9) == 0);
     assert(is_avalanche(a, 1, 1, 1, 0, 1) && ARE_EQUAL(counts, above));
-    assert(sandpile_drive_read(&driven, heights, 9, odometer, 9, &topplings, &lost) == 0);
-    assert(ARE_EQUAL(heights, settled) && ARE_EQUAL(odometer, toppled) && topplings == 11 && lost == 7);
+    assert(sandpile_drive_read(&driven, heights, 9, odometer, 9, &topplings, &lost, &drops) == 0);
+    assert(ARE_EQUAL(heights, settled) && ARE_EQUAL(odometer, toppled) && topplings == 11 && lost == 7 && drops == 4);
     sandpile_drive_free(&driven);
 }
 
@@ -394,21 +393,22 @@ static void share_no_drops(void) {
 
 /* An array of length 0 may be null, as that of an empty std::vector. */
 static void null_arrays(void) {
-    uint64_t heights[3] = {5, 0, 0}, odometer[3] = {0}, number = 7, lost = 7, topplings = 7;
-    const uint64_t settled[3] = {1, 1, 0}, none[3] = {0};
+    uint64_t heights[3] = {5, 0, 0}, odometer[3] = {0}, number = 7, lost = 7, topplings = 7, drops = 7;
+    size_t count = 7;
+    const uint64_t settled[3] = {1, 1, 0}, once[3] = {1, 0, 0};
     sandpile_drive driven = {0};
     sandpile_pass pass = {0};
     assert(sandpile_settle_all(3, 1, false, NULL, 0, NULL, 0, NULL, 0, NULL, 0) == 0);
-    assert(sandpile_drop(3, 1, false, heights, 3, odometer, 3, NULL, 0, NULL, 0) == 0 && ARE_EQUAL(heights, settled));
     assert(sandpile_sites(3, 1, false, 0, 0, 0, NULL, 0) == 0);
     assert(sandpile_drive_new(3, 1, false, heights, 3, &driven) == 0);
     assert(sandpile_drive_drop(&driven, NULL, 0, NULL, 0) == 0);
-    assert(sandpile_drive_waves(&driven, NULL, 0, NULL, 0, NULL, 0) == 0);
-    assert(sandpile_drive_read(&driven, NULL, 0, NULL, 0, &topplings, &lost) == 0 && topplings == 0 && lost == 0);
+    assert(sandpile_drive_waves(&driven, NULL, 0, NULL, 0, NULL, 0, &count) == 0 && count == 0);
+    assert(sandpile_drive_read(&driven, NULL, 0, NULL, 0, &topplings, &lost, &drops) == 0);
+    assert(topplings == 1 && lost == 3 && drops == 0);
     assert(sandpile_shared_new(3, 1, false, heights, 3, 0, &pass) == 0);
     assert(sandpile_pass_drop(&pass, NULL, 0, &number) == 0);
     assert(sandpile_pass_settle(&pass, heights, 3, odometer, 3, NULL, 0, &topplings, &lost) == 0);
-    assert(ARE_EQUAL(heights, settled) && ARE_EQUAL(odometer, none) && topplings == 0 && lost == 0);
+    assert(ARE_EQUAL(heights, settled) && ARE_EQUAL(odometer, once) && topplings == 1 && lost == 3);
     sandpile_drive_free(&driven);
     sandpile_pass_free(&pass);
 }
@@ -422,7 +422,6 @@ static void null_piles(void) {
     sandpile_drive driven = {0};
     sandpile_pass pass = {0};
     assert(sandpile_settle(3, 1, false, NULL, 0, NULL, 0, &lost, &topplings) == SANDPILE_LENGTH);
-    assert(sandpile_drop(3, 1, false, NULL, 0, NULL, 0, NULL, 0, NULL, 0) == SANDPILE_LENGTH);
     assert(sandpile_burn(3, 1, false, NULL, 0, NULL, 0, &count, &recurrent) == SANDPILE_LENGTH);
     assert(sandpile_burn_times(3, 1, false, NULL, 0, NULL, 0) == SANDPILE_LENGTH);
     assert(sandpile_tree(3, 1, false, NULL, 0, NULL, 0) == SANDPILE_LENGTH);
@@ -447,7 +446,6 @@ int main(void) {
     settle();
     settle_all();
     settle_all_faults();
-    drop();
     sites();
     burn();
     burn_times();

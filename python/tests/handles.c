@@ -22,7 +22,7 @@
 #include <sys/wait.h>
 #include <unistd.h>
 
-enum { SIDE = 16, SITES = SIDE * SIDE, ROW = SIDE / 2, QUOTA = 200, THREADS = 4 };
+enum { SIDE = 16, SITES = SIDE * SIDE, WAVES = SIDE / 2, QUOTA = 200, THREADS = 4 };
 
 #ifndef READS
 #define READS 100000
@@ -290,16 +290,18 @@ static const size_t drops[4] = {0, 1, 17, 255};
 /* What the calls write. */
 static struct outputs {
     sandpile_avalanche rows[4];
-    uint64_t counts[2][SITES], sums[2];
+    sandpile_wave waves[4 * WAVES];
+    size_t count;
+    uint64_t counts[2][SITES], sums[3];
     struct record record;
 } out;
 
 static uint32_t new_drive(void) { return sandpile_drive_new(SIDE, SIDE, false, all, SITES, &drive); }
 static uint32_t drop_on_drive(void) { return sandpile_drive_drop(&drive, drops, 4, out.rows, 4); }
-static uint32_t waves(void) { return sandpile_drive_waves(&drive, drops, 4, out.rows, 4, out.counts[0], 4 * ROW); }
+static uint32_t waves(void) { return sandpile_drive_waves(&drive, drops, 4, out.rows, 4, out.waves, 4 * WAVES, &out.count); }
 static uint32_t avalanche(void) { return sandpile_drive_avalanche(&drive, 3, out.rows, out.counts[0], SITES); }
 static uint32_t read_drive(void) {
-    return sandpile_drive_read(&drive, out.counts[0], SITES, out.counts[1], SITES, &out.sums[0], &out.sums[1]);
+    return sandpile_drive_read(&drive, out.counts[0], SITES, out.counts[1], SITES, &out.sums[0], &out.sums[1], &out.sums[2]);
 }
 static uint32_t read_site(void) { return sandpile_drive_site(&drive, 17, &out.sums[0], &out.sums[1]); }
 static uint32_t new_shared(void) { return sandpile_shared_new(SIDE, SIDE, false, all, SITES, QUOTA, &pass); }
@@ -319,7 +321,7 @@ struct state {
     sandpile_drive drive;
     sandpile_pass pass, other;
     sandpile_holding holdings[2];
-    uint64_t all[SITES], drive_sums[2];
+    uint64_t all[SITES], drive_sums[3];
     struct outputs out;
     long blocks;
 };
@@ -332,7 +334,8 @@ static void take_state(struct state *now) {
     if (pass.at) OK(sandpile_pass_holding(&pass, &now->holdings[0]));
     if (other.at) OK(sandpile_pass_holding(&other, &now->holdings[1]));
     if (drive.at)
-        OK(sandpile_drive_read(&drive, &unread[0], 0, &unread[1], 0, &now->drive_sums[0], &now->drive_sums[1]));
+        OK(sandpile_drive_read(&drive, &unread[0], 0, &unread[1], 0, &now->drive_sums[0], &now->drive_sums[1],
+                               &now->drive_sums[2]));
     now->blocks = atomic_load(&blocks);
 }
 
@@ -404,7 +407,7 @@ static int refused;
 #define REFUSED(fault, call) do { EXPECT((call) == (fault)); refused++; } while (0)
 
 static void misuse_a_drive(void) {
-    out.sums[0] = out.sums[1] = 5;
+    out.sums[0] = out.sums[1] = out.sums[2] = 5;
     REFUSED(SANDPILE_EMPTY, drop_on_drive());
     REFUSED(SANDPILE_EMPTY, waves());
     REFUSED(SANDPILE_EMPTY, sandpile_drive_site(&drive, outside, &out.sums[0], &out.sums[1]));
@@ -412,16 +415,16 @@ static void misuse_a_drive(void) {
     REFUSED(SANDPILE_TAKEN, new_drive());
     REFUSED(SANDPILE_LENGTH, sandpile_drive_drop(&drive, &outside, 1, out.rows, 2));
     REFUSED(SANDPILE_NO_SITE, sandpile_drive_drop(&drive, &outside, 1, out.rows, 1));
-    REFUSED(SANDPILE_LENGTH, sandpile_drive_waves(&drive, &outside, 1, out.rows, 2, out.counts[0], ROW));
-    REFUSED(SANDPILE_LENGTH, sandpile_drive_waves(&drive, &outside, 1, out.rows, 1, out.counts[0], ROW + 1));
-    REFUSED(SANDPILE_LENGTH, sandpile_drive_waves(&drive, &outside, 1, out.rows, 1, out.counts[0], 0));
-    REFUSED(SANDPILE_NO_SITE, sandpile_drive_waves(&drive, &outside, 1, out.rows, 1, out.counts[0], ROW));
+    REFUSED(SANDPILE_LENGTH, sandpile_drive_waves(&drive, &outside, 1, out.rows, 2, out.waves, WAVES, &out.count));
+    REFUSED(SANDPILE_LENGTH, sandpile_drive_waves(&drive, &outside, 1, out.rows, 1, out.waves, WAVES - 1, &out.count));
+    REFUSED(SANDPILE_LENGTH, sandpile_drive_waves(&drive, &outside, 1, out.rows, 1, out.waves, 0, &out.count));
+    REFUSED(SANDPILE_NO_SITE, sandpile_drive_waves(&drive, &outside, 1, out.rows, 1, out.waves, WAVES, &out.count));
     REFUSED(SANDPILE_LENGTH, sandpile_drive_avalanche(&drive, 0, out.rows, out.counts[0], 1));
     REFUSED(SANDPILE_NO_SITE, sandpile_drive_avalanche(&drive, outside, out.rows, out.counts[0], SITES));
     REFUSED(SANDPILE_LENGTH, sandpile_drive_read(&drive, out.counts[0], 1, out.counts[1], SITES,
-                                                 &out.sums[0], &out.sums[1]));
+                                                 &out.sums[0], &out.sums[1], &out.sums[2]));
     REFUSED(SANDPILE_NO_SITE, sandpile_drive_site(&drive, outside, &out.sums[0], &out.sums[1]));
-    EXPECT(out.sums[0] == 5 && out.sums[1] == 5);
+    EXPECT(out.sums[0] == 5 && out.sums[1] == 5 && out.sums[2] == 5);
     sandpile_drive_free(&drive);
 }
 
@@ -482,15 +485,15 @@ static void misuse(void) {
 /* Readers: `drive` is a pile of threes on which one grain has dropped, and `pass` has made one drop. */
 
 static void expect_to_read(const uint64_t *heights, const uint64_t *odometer, int i) {
-    uint64_t now[2][SITES], sums[2];
+    uint64_t now[2][SITES], sums[3];
     sandpile_holding held;
     OK(sandpile_drive_site(&drive, 17, &sums[0], &sums[1]));
     EXPECT(sums[0] == heights[17] && sums[1] == odometer[17]);
     OK(sandpile_pass_holding(&pass, &held));
     EXPECT(held.left == QUOTA - 1 && held.seen == 1 && held.drops == 1 && held.first_row == 0 && held.end_row == SIDE);
     if (i % 10) return;
-    OK(sandpile_drive_read(&drive, now[0], SITES, now[1], SITES, &sums[0], &sums[1]));
-    EXPECT(!memcmp(now[0], heights, sizeof now[0]) && !memcmp(now[1], odometer, sizeof now[1]));
+    OK(sandpile_drive_read(&drive, now[0], SITES, now[1], SITES, &sums[0], &sums[1], &sums[2]));
+    EXPECT(!memcmp(now[0], heights, sizeof now[0]) && !memcmp(now[1], odometer, sizeof now[1]) && sums[2] == 1);
 }
 
 static void *read_on(void *argument) {
@@ -502,14 +505,14 @@ static void *read_on(void *argument) {
 static void readers(void) {
     static uint64_t first[2 * SITES];
     pthread_t threads[THREADS];
-    uint64_t sums[2];
+    uint64_t sums[3];
     const void *held[2];
     fill_with_threes();
     OK(new_drive());
     OK(sandpile_drive_drop(&drive, drops + 2, 1, out.rows, 1));
     OK(new_shared());
     OK(sandpile_pass_drop(&pass, drops, 1, out.sums));
-    OK(sandpile_drive_read(&drive, first, SITES, first + SITES, SITES, &sums[0], &sums[1]));
+    OK(sandpile_drive_read(&drive, first, SITES, first + SITES, SITES, &sums[0], &sums[1], &sums[2]));
     held[0] = drive.at, held[1] = pass.at;
     for (int i = 0; i < THREADS; i++) EXPECT(!pthread_create(&threads[i], NULL, read_on, first));
     for (int i = 0; i < THREADS; i++) EXPECT(!pthread_join(threads[i], NULL));
@@ -565,8 +568,8 @@ static const struct grid { size_t width, height; bool cylinder; } grids[] = {
 };
 
 static void read_twin(uint64_t *heights, uint64_t *odometer, size_t sites) {
-    uint64_t sums[2];
-    OK(sandpile_drive_read(&twin, heights, sites, odometer, sites, &sums[0], &sums[1]));
+    uint64_t sums[3];
+    OK(sandpile_drive_read(&twin, heights, sites, odometer, sites, &sums[0], &sums[1], &sums[2]));
 }
 
 static void drop_in_lists(uint64_t *seed, size_t sites) {
@@ -593,9 +596,10 @@ static void drop_alone(uint64_t *seed, size_t sites) {
 
 static void expect_twins(size_t sites) {
     struct record one = {.lost = 0}, other = {.lost = 0};
-    OK(sandpile_drive_read(&drive, one.heights, sites, one.odometer, sites, &one.topplings, &one.lost));
-    OK(sandpile_drive_read(&twin, other.heights, sites, other.odometer, sites, &other.topplings, &other.lost));
-    EXPECT(!memcmp(&one, &other, sizeof one));
+    uint64_t made[2];
+    OK(sandpile_drive_read(&drive, one.heights, sites, one.odometer, sites, &one.topplings, &one.lost, &made[0]));
+    OK(sandpile_drive_read(&twin, other.heights, sites, other.odometer, sites, &other.topplings, &other.lost, &made[1]));
+    EXPECT(!memcmp(&one, &other, sizeof one) && made[0] == made[1]);
     for (size_t i = 0; i < sites; i++) {
         uint64_t height, topplings;
         OK(sandpile_drive_site(&drive, i, &height, &topplings));
@@ -647,11 +651,12 @@ static void drop_on_both(size_t site) {
 
 static void expect_of_both(const struct record *wanted, size_t count) {
     struct record got = {.lost = 0};
+    uint64_t made;
     OK(settle_into(&got, &pass, PAIR, count));
     EXPECT(!memcmp(&got, wanted, sizeof got)); /* the shared pile */
     memset(&got, 0, offsetof(struct record, history));
-    OK(sandpile_drive_read(&drive, got.heights, PAIR, got.odometer, PAIR, &got.topplings, &got.lost));
-    EXPECT(!memcmp(&got, wanted, sizeof got)); /* the drive */
+    OK(sandpile_drive_read(&drive, got.heights, PAIR, got.odometer, PAIR, &got.topplings, &got.lost, &made));
+    EXPECT(!memcmp(&got, wanted, sizeof got) && made == count); /* the drive */
 }
 
 /* The heights are 3 and 2. A grain on the left topples the left site; two on the right topple the right site, then the

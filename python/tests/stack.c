@@ -37,10 +37,6 @@ static uint32_t settle_all(void) {
     return sandpile_settle_all(width, height, cylinder, heights, sites, odometer, sites, lost, 1, topplings, 1);
 }
 
-static uint32_t drop(void) {
-    return sandpile_drop(width, height, cylinder, heights, sites, odometer, sites, places, DROPS, avalanches, DROPS);
-}
-
 static uint32_t draw(void) { return sandpile_sites(width, height, cylinder, 1, 2, 3, places, sites); }
 
 static uint32_t burn(void) {
@@ -76,8 +72,9 @@ static uint32_t drive_new(void) { return sandpile_drive_new(width, height, cylin
 static uint32_t drive_drop(void) { return sandpile_drive_drop(&driven, places, DROPS, avalanches, DROPS); }
 
 static uint32_t drive_waves(void) {
-    size_t row = ((cylinder || height < width ? height : width) + 1) / 2;
-    return sandpile_drive_waves(&driven, places, DROPS, avalanches, DROPS, odometer, DROPS * row);
+    static sandpile_wave waves[DROPS * SIDE / 2];
+    size_t count;
+    return sandpile_drive_waves(&driven, places, DROPS, avalanches, DROPS, waves, DROPS * SIDE / 2, &count);
 }
 
 static uint32_t drive_avalanche(void) {
@@ -85,8 +82,8 @@ static uint32_t drive_avalanche(void) {
 }
 
 static uint32_t drive_read(void) {
-    uint64_t topplings, lost;
-    return sandpile_drive_read(&driven, heights, sites, odometer, sites, &topplings, &lost);
+    uint64_t topplings, lost, drops;
+    return sandpile_drive_read(&driven, heights, sites, odometer, sites, &topplings, &lost, &drops);
 }
 
 static uint32_t drive_site(void) {
@@ -161,8 +158,6 @@ static const struct { const char *name; uint32_t (*make)(void); uint64_t each; u
     {"sandpile_settle", settle, 16777215, nothing},
     {"sandpile_settle_all", settle_all, 4, nothing},
     {"sandpile_settle_all", settle_all, 16777215, nothing},
-    {"sandpile_drop", drop, 3, nothing},
-    {"sandpile_drop", drop, 24, nothing},
     {"sandpile_sites", draw, 0, nothing},
     {"sandpile_burn", burn, 0, nothing},
     {"sandpile_burn", burn, 3, nothing},

@@ -156,16 +156,9 @@ class Odometers(unittest.TestCase):
     def test_ctrl_c_keeps_what_was_done(self):
         one, other = two_runs()
         one.drop(5), other.drop(5)
-        made, block = [], driving._block
-
-        def stopped(*words):
-            made.append(1)
-            if len(made) == 30:
-                raise KeyboardInterrupt
-            return block(*words)
-
-        with mock.patch.object(driving, "_block", stopped):
-            self.assertRaises(KeyboardInterrupt, one.drop, 100, odometers=True)
+        one._go_on = mock.Mock(side_effect=[None] * 29 + [KeyboardInterrupt])
+        self.assertRaises(KeyboardInterrupt, one.drop, 100, odometers=True)
+        one._go_on = None
         self.assertEqual(one.drops, 34)
         self.assertTrue(same(one.table, other.drop(29)))
         self.assertTrue(same(one.drop(10), other.drop(10)))

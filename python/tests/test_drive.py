@@ -19,7 +19,6 @@ from unittest import mock
 
 import numpy as np
 import sandpile
-from sandpile import driving
 from tools import needs_module, new_folder, ran, same
 
 FULL = np.full((32, 32), 3)
@@ -241,20 +240,19 @@ class Held:
     """Holds the first block of drops until it is let go."""
 
     def __init__(self):
-        self.is_there, self.go, self.block = threading.Event(), threading.Event(), driving._block
+        self.is_there, self.go = threading.Event(), threading.Event()
 
-    def __call__(self, *words):
+    def __call__(self):
         if not self.is_there.is_set():
             self.is_there.set()
             self.go.wait(60)
-        return self.block(*words)
 
 
 @contextlib.contextmanager
 def dropping(run, n):
     """Meanwhile another thread drops `n` grains on a run, and its first block is not yet made. Yields its table to be."""
-    held = Held()
-    with mock.patch.object(driving, "_block", held), ThreadPoolExecutor(1) as pool:
+    held = run._go_on = Held()
+    with ThreadPoolExecutor(1) as pool:
         table = pool.submit(run.drop, n)
         held.is_there.wait(60)
         try:
@@ -358,8 +356,8 @@ class Stopped(unittest.TestCase):
             self.assertRaises(KeyboardInterrupt, call, Interrupting())
             self.assertEqual((len(run.table), run.table.dtype), (0, sandpile.AVALANCHE))
         run.drop(5)
-        with mock.patch.object(driving, "_block", side_effect=KeyboardInterrupt):
-            self.assertRaises(KeyboardInterrupt, run.drop, 5)
+        run._go_on = mock.Mock(side_effect=[KeyboardInterrupt, None])
+        self.assertRaises(KeyboardInterrupt, run.drop, 5)
         self.assertEqual((len(run.table), run.drops), (0, 15))
         self.assertEqual(run.drop(5)["number"].tolist(), [15, 16, 17, 18, 19])
 

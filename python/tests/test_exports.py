@@ -9,6 +9,7 @@ import numpy as np
 from sandpile import _library
 from sandpile.driving import _AVALANCHE
 from sandpile.sharing import _HOLDING
+from sandpile.waves import WAVE
 from tools import TOP
 
 HEADER = (TOP / "include" / "sandpile.h").read_text()
@@ -109,6 +110,10 @@ class Module(unittest.TestCase):
 
     def test_an_avalanche_is_laid_out_as_in_c(self):
         self.assertEqual(of_avalanche(_AVALANCHE), [])
+
+    def test_a_wave_is_laid_out_as_in_c(self):
+        without_sign = [(name, f"u{WAVE[name].itemsize}") for name in WAVE.names]
+        self.assertEqual(fields(without_sign), fields(exports.laid_out(EXPORTED["sandpile_wave"])))
 
     def test_a_holding_is_laid_out_as_in_c(self):
         self.assertEqual(of_holding(_HOLDING), [])

@@ -205,12 +205,12 @@ def dropping(run, blocks, of):
 class OneAfterAnother(unittest.TestCase):
     def test_saves_of_a_run_that_drops(self):
         run, folder, drops = sandpile.Drive(FULL, seed=9), new_folder(self), []
-        with dropping(run, blocks=400, of=500) as dropped:
-            while not dropped.done():
+        with dropping(run, blocks=4_000, of=500) as dropped:
+            while not dropped.done() and len({*drops}) < 20:  # on a busy machine a save takes long
                 run.save(folder / "run")  # of which `load` accepts none that contradicts itself
                 drops.append(sandpile.Drive.load(folder / "run").drops)
         self.assertEqual(drops, sorted(drops))
-        self.assertGreater(len({*drops} - {0, 200_000}), 3)
+        self.assertGreater(len({*drops} - {0, 2_000_000}), 3)
 
     def test_a_reader_does_not_wait_for_all_drops(self):
         run, seen = sandpile.Drive(np.full((64, 64), 3)), set()

@@ -25,7 +25,7 @@ class Names(unittest.TestCase):
             self.assertEqual((fault.name.upper(), fault.sentence), (name.replace("_", ""), sentences[name]))
 
     def test_faults_have_the_names_and_sentences_of_the_docs(self):
-        rows = {int(number): row for number, *row in re.findall(r"^\| (\d+) \| (\w+) \|.*\| (.*) \|$", FORMATS, re.M)}
+        rows = {int(number): row for number, *row in re.findall(r"^\| (\d+) \| (\w+) \| (.*) \|$", FORMATS, re.M)}
         for number, (name, sentence) in _FAULTS.items():
             known_name, meaning = rows[number]
             self.assertEqual(known_name, name)

@@ -110,17 +110,17 @@ class Index:
 
 class Seeds(unittest.TestCase):
     def test_the_pile_of_a_seed(self):
-        self.assertEqual(sandpile.random_recurrent((2, 3), 7).pile.tolist(), [[2, 3, 3], [0, 1, 2]])
+        self.assertEqual(sandpile.random_recurrent((2, 3), 7).pile.tolist(), [[2, 2, 2], [3, 3, 2]])
 
     def test_the_words_of_a_seed_are_those_of_no_run(self):
         # `sandpile_random` and `sandpile_sites` read one stream if they are given one seed and stream.
         for seed in (7, np.random.SeedSequence(7)):
             words, of_run = [], sandpile.Drive([[0]], seed)
 
-            def call(name, shape, edge, *numbers):
+            def call_at(name, width, height, edge, *numbers):
                 words.append(numbers[:2])
 
-            with mock.patch.object(stationary, "call", call):
+            with mock.patch.object(stationary, "call_at", call_at):
                 sandpile.random_recurrent((2, 3), seed)
             self.assertNotEqual(words, [(of_run.seed, of_run.stream)])
             self.assertEqual(words, [tuple(np.random.SeedSequence(7).generate_state(2, np.uint64).tolist())])

@@ -310,6 +310,7 @@ class Ended(InFolder):
 RECORDING = """
 import signal, sys, numpy as np, sandpile
 signal.alarm(120)  # in case the test is killed
+signal.signal(signal.SIGINT, signal.default_int_handler)  # in case it is ignored, as in a job in the background
 run = sandpile.Drive(np.full((64, 64), 3), seed=1)
 print("begun", flush=True)
 run.record(int(sys.argv[1]), "rows.bin", "run.npz", every=float(sys.argv[2]))

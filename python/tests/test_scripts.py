@@ -530,6 +530,8 @@ class OfAWrongBody(OfScripts):
         "crates/high/src/lib.rt": "mod piles;\n",
         "crates/high/src/piles.rt": "impl Pile {\n    fn one() -> u8 {\n        1\n    }\n}\n",
         "crates/high/must-fail/two.edit": "file: src/piles.rt\nold:         1\nnew:         2\n",
+        "crates/high/src/runs.rt": "impl Run for Pile {\n    fn run() {\n        go()\n    }\n}\n",
+        "crates/high/must-fail/stays.edit": "file: src/runs.rt\nold: go()\nnew: stay()\n",
     }
 
     def test_an_edit_alone(self):
@@ -543,7 +545,32 @@ class OfAWrongBody(OfScripts):
         lines = "check --only piles::Pile::one\n" + edited + "low: std\nhigh: low std\na libraryhigh\nlow\n"
         self.assertEqual((status, said), (1, lines))
         self.assertEqual((files_in(self.top), list(self.room.iterdir())), (before, []))
+        self.assertTrue(self.run_in("tools/wrong-bodies", "high/stays")[1].startswith("check --only runs::PileRun::run\n"))
         self.assertEqual(self.run_in("tools/wrong-bodies", "high/three")[:2], (2, ""))
+
+
+class OfWhatTestsShow(OfScripts):
+    scripts = ("tools/wrong-bodies", "tools/products.py")
+    files = {
+        "crates.txt": "low: std\n",
+        "crates/low/src/piles.rt": "#[test]\nfn adds() {\n}\n",
+        "tools/by-tests.txt": "# two entries\n\nwrong: it adds 2\nwhy: no clause counts\ntest: low/piles: adds; crates\n\n"
+        "example: 1 + 1\ntest: low/piles\n",
+    }
+
+    def test_each_test_that_is_named_is_looked_for(self):
+        for name, text in self.files.items():
+            (self.top / name).parent.mkdir(parents=True, exist_ok=True)
+            (self.top / name).write_text(text)
+        said = "wrong bodies and what tests show: 2 passed, 0 failed\n"
+        self.assertEqual(self.run_in("tools/wrong-bodies", "--check"), (0, said, ""))
+        self.assertIn("| it adds 2 | no clause counts | low/piles: adds; crates |\n", self.run_in("tools/wrong-bodies", "--by-tests")[1])
+        (self.top / "crates/low/src/piles.rt").write_text("#[test]\nfn adds_up() {\n}\n\nfn adds() {\n}\n")
+        status, said, _ = self.run_in("tools/wrong-bodies", "--check")
+        self.assertEqual(status, 1)
+        self.assertTrue(said.startswith("tools/by-tests.txt: there is no test `adds` in low/piles\n"), said)
+        (self.top / "crates/low/src/piles.rt").write_text("fn adds() {\n}\n")
+        self.assertTrue(self.run_in("tools/wrong-bodies", "--check")[1].endswith(": 0 passed, 2 failed\n"))
 
 
 class OfTheGate(OfScripts):

@@ -1,11 +1,11 @@
 """The waves of avalanches, against the definition, site by site."""
 
+import copy
 import unittest
 from unittest import mock
 
 import numpy as np
 import sandpile
-from sandpile import driving
 from test_bijection import ends
 from test_live import equal
 from tools import same
@@ -143,6 +143,12 @@ class Tables(unittest.TestCase):
         self.assertEqual({*waves["number"]} - {70, 71, 72}, set())
         self.assertEqual(waves["size"].sum(), table["size"].sum())
 
+    def test_a_copy_goes_on_with_the_numbers(self):
+        one, other = runs(9, 9, False)
+        one.drop(30), other.drop(30)
+        for found, expected in zip(copy.copy(one).drop(20, waves=True), other.drop(20, waves=True)):
+            self.assertTrue(same(found, expected))
+
     def test_none(self):
         run = sandpile.Drive(np.zeros((9, 9), int), seed=1)
         for drops in (0, 5):
@@ -150,17 +156,10 @@ class Tables(unittest.TestCase):
             self.assertEqual((len(table), waves.shape, waves.dtype), (drops, (0,), sandpile.WAVE))
 
     def test_ctrl_c_keeps_what_was_done(self):
-        (one, other), made, block = runs(9, 9, False), [], driving._block
-        one._most = 10
-
-        def stopped(*words):
-            made.append(1)
-            if len(made) == 4:
-                raise KeyboardInterrupt
-            return block(*words)
-
-        with mock.patch.object(driving, "_block", stopped):
-            self.assertRaises(KeyboardInterrupt, one.drop, 100, waves=True)
+        one, other = runs(9, 9, False)
+        one._most, one._go_on = 10, mock.Mock(side_effect=[None] * 3 + [KeyboardInterrupt])
+        self.assertRaises(KeyboardInterrupt, one.drop, 100, waves=True)
+        one._go_on = None
         self.assertTrue(same(one.table, other.drop(30)))
         for found, expected in zip(one.drop(10, waves=True), other.drop(10, waves=True)):
             self.assertTrue(same(found, expected))

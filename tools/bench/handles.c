@@ -18,7 +18,7 @@ struct dropper {
     uint64_t stream;
 };
 
-static uint64_t heights[WIDE * WIDE], odometer[WIDE * WIDE], topplings, lost;
+static uint64_t heights[WIDE * WIDE], odometer[WIDE * WIDE], topplings, lost, made;
 static size_t history[THREADS * EACH], sites[BURN_IN];
 static sandpile_avalanche avalanches[BURN_IN];
 
@@ -82,7 +82,7 @@ static void burn_in(void) {
     check(sandpile_sites(WIDE, WIDE, false, 5, 0, 0, sites, BURN_IN));
     check(sandpile_drive_new(WIDE, WIDE, false, heights, WIDE * WIDE, &drive));
     check(sandpile_drive_drop(&drive, sites, BURN_IN, avalanches, BURN_IN));
-    check(sandpile_drive_read(&drive, heights, WIDE * WIDE, NULL, 0, &topplings, &lost));
+    check(sandpile_drive_read(&drive, heights, WIDE * WIDE, NULL, 0, &topplings, &lost, &made));
     sandpile_drive_free(&drive);
 }
 
@@ -96,7 +96,7 @@ static void drop_singly(sandpile_drive *drive, enum way way, size_t site) {
         return;
     }
     check(sandpile_drive_drop(drive, &site, 1, avalanches, 1));
-    if (way == WITH_COUNTS) check(sandpile_drive_read(drive, NULL, 0, NULL, 0, &topplings, &lost));
+    if (way == WITH_COUNTS) check(sandpile_drive_read(drive, NULL, 0, NULL, 0, &topplings, &lost, &made));
     if (way == WITH_A_HEIGHT) check(sandpile_drive_site(drive, site, &height, &times));
 }
 
@@ -121,8 +121,8 @@ static double read_all(bool counts) {
     check(sandpile_drive_drop(&drive, sites, SINGLE, avalanches, SINGLE));
     double begun = seconds(CLOCK_PROCESS_CPUTIME_ID);
     for (int i = 0; i < READS; i++)
-        check(counts ? sandpile_drive_read(&drive, NULL, 0, odometer, length, &topplings, &lost)
-                     : sandpile_drive_read(&drive, odometer, length, NULL, 0, &topplings, &lost));
+        check(counts ? sandpile_drive_read(&drive, NULL, 0, odometer, length, &topplings, &lost, &made)
+                     : sandpile_drive_read(&drive, odometer, length, NULL, 0, &topplings, &lost, &made));
     double took = seconds(CLOCK_PROCESS_CPUTIME_ID) - begun;
     sandpile_drive_free(&drive);
     return took * 1e9 / (double)(READS * length);

@@ -2,110 +2,158 @@
 //!
 //! It examines the bytes of the input again. No promise of a command depends on any of this.
 
-use crate::outline::Numbers;
-use crate::pushing::{push_byte, push_grouped, push_place};
-use crate::refused::Refused;
-use crate::{piles, strange};
+use crate::pushing::{push_byte, push_grouped, push_place, push_sides};
+use crate::rejected::{Rejected, Surveyed};
+use crate::strange;
 use sand_cli::{Explained, fault_numbered};
-use sand_model::GRAIN_LIMIT;
+use sand_model::{GRAIN_LIMIT, SIDE_LIMIT};
+use sand_text::Survey;
 use std::alloc::{AllocError, Global};
 
-const LESS_MEMORY_OF_LAB: &str = "\
-'lab' needs about 40 bytes of memory per drop, counting all epochs. Use fewer
-drops or epochs.";
+const SIDES: &str = "must be from 1 to 256";
 
-const LESS_MEMORY_OF_DROPS: &str = "Use a smaller pile, or fewer sites in the input.";
+const CYLINDER: &str = "must be at least 3 on a cylinder";
 
-// An input that ends before a width and a height.
-fn push_end(text: &mut String, refused: &Refused<'_>) -> Result<(), AllocError> {
-    let (numbers, name) = match refused.first() {
-        Some(first) => (first.drops(), "the second pile"),
-        None => (Numbers::new(refused.input), "the pile"),
-    };
-    push_place(text, refused.input, refused.input.len())?;
-    let is_second = refused.first().is_some();
-    match numbers.len() {
-        0 if is_second => text.push_str("the input ends after the first pile\n"),
-        0 if refused.input.is_empty() => text.push_str("the input is empty\n"),
-        0 => text.push_str("the input has no numbers\n"),
-        _ => write!(text, "the input ends after the width of {name}\n"),
-    }?;
-    if is_second {
-        text.push_str("'add' reads two piles: cat FIRST SECOND | sandpile add\n")
-    } else {
-        text.push_str(strange::PLAIN)?;
-        text.push_str("\nFor example: echo '3 1  0 4 0' | sandpile settle\n")
-    }
+const NO_SITE: &str = "the grid has no such site";
+
+const ONE_PILE: &str =
+    "Write width, height and grains, such as: echo '3 1  0 4 0' | sandpile settle";
+
+const TWO_PILES: &str = "'add' reads two piles: cat FIRST SECOND | sandpile add";
+
+// An input that ends before both sides of a pile.
+fn push_end(text: &mut String, input: &[u8], pile: &Survey, name: &str) -> Result<(), AllocError> {
+    let side = if pile.count == 0 { "width" } else { "height" };
+    push_place(text, input, input.len())?;
+    write!(text, "the input ends before the {side} of {name}\n")
 }
 
-// A byte that cannot be in the text of a pile, or an input that ends too early.
-fn push_text(text: &mut String, refused: &Refused<'_>) -> Result<(), AllocError> {
-    let Some(byte) = refused.input.get(refused.place) else {
-        return push_end(text, refused);
-    };
-    push_place(text, refused.input, refused.place)?;
-    push_byte(text, *byte)?;
-    text.push_str(" is neither a digit nor white space\n")?;
-    text.push_str(strange::meaning(refused.input, refused.place))?;
-    text.push_str("\n")
+// A byte that cannot be in the text of a pile.
+fn push_strange(text: &mut String, input: &[u8], place: usize, byte: u8) -> Result<(), AllocError> {
+    push_place(text, input, place)?;
+    push_byte(text, byte)?;
+    text.push_str(" is neither a digit nor white space\n")
 }
 
-fn push_large(text: &mut String, refused: &Refused<'_>) -> Result<(), AllocError> {
-    push_place(text, refused.input, refused.place)?;
+fn push_large(text: &mut String, input: &[u8], place: usize) -> Result<(), AllocError> {
+    push_place(text, input, place)?;
     text.push_str("the number is over ")?;
     push_grouped(text, GRAIN_LIMIT)?;
     text.push_str("\n")
 }
 
-// A pile and drops that exceed the grain limit together.
-fn push_full(text: &mut String, refused: &Refused<'_>) -> Result<(), AllocError> {
-    let Some(pile) = refused.first() else {
+// A number that is at fault, with its offset and its value.
+fn push_number(
+    text: &mut String,
+    input: &[u8],
+    number: Option<(usize, u64)>,
+    what: &str,
+    limit: &str,
+) -> Result<(), AllocError> {
+    let Some((start, value)) = number else {
         return Ok(());
     };
-    text.push_str("the pile has ")?;
-    push_grouped(text, pile.grains())?;
-    text.push_str(" grains; at most ")?;
-    push_grouped(text, GRAIN_LIMIT)?;
-    text.push_str(" are allowed, including the drops\n")
+    push_place(text, input, start)?;
+    write!(text, "{what} is {value}, but {limit}\n")
 }
 
-// What was found in the input, if the fault with this name is in the input.
-fn push_found(
+fn push_length(text: &mut String, pile: &Survey, name: &str) -> Result<(), AllocError> {
+    let sites = pile.sites();
+    let count = pile.count.saturating_sub(2);
+    write!(text, "{name} begins with its sides, ")?;
+    push_sides(text, pile)?;
+    write!(
+        text,
+        ", so the number of heights must be {sites}, but it is {count}\n"
+    )
+}
+
+// More grains than the limit, in a pile or with all drops.
+fn push_grains(text: &mut String, pile: &Survey, name: &str) -> Result<(), AllocError> {
+    if pile.grains > GRAIN_LIMIT {
+        write!(text, "{name} has more than ")?;
+        push_grouped(text, GRAIN_LIMIT)?;
+        text.push_str(" grains\n")
+    } else {
+        write!(text, "{name} has ")?;
+        push_grouped(text, pile.grains)?;
+        text.push_str(" grains; at most ")?;
+        push_grouped(text, GRAIN_LIMIT)?;
+        text.push_str(" are allowed, including all drops\n")
+    }
+}
+
+fn push_shapes(text: &mut String, first: &Survey, second: &Survey) -> Result<(), AllocError> {
+    text.push_str("the first pile is ")?;
+    push_sides(text, first)?;
+    text.push_str(", but the second is ")?;
+    push_sides(text, second)?;
+    text.push_str("\n")
+}
+
+// What was found in the piles of the input, if the fault with this name is in them. `name` is the last one's.
+fn push_found_in(
     text: &mut String,
-    alloc: Global,
-    refused: &Refused<'_>,
+    rejected: &Rejected<'_>,
     fault: &str,
+    first: &Surveyed<'_>,
+    last: &Surveyed<'_>,
+    name: &str,
 ) -> Result<(), AllocError> {
+    let Rejected { input, place, .. } = *rejected;
+    let survey = &last.survey;
+    let drop_index = survey.sites().saturating_add(2).saturating_add(place);
     match fault {
-        "Side" => piles::push_side(text, refused),
-        "Length" => piles::push_length(text, refused),
-        "TooManyGrains" => piles::push_grains(text, refused),
-        "Full" => push_full(text, refused),
-        "Unstable" => piles::push_unstable(text, refused),
-        "NotRecurrent" => piles::push_forbidden(text, alloc, refused),
-        "Shapes" => piles::push_shapes(text, refused),
-        "Text" => push_text(text, refused),
-        "TooLarge" => push_large(text, refused),
-        "Narrow" => piles::push_narrow(text, refused),
-        "NoSite" => piles::push_no_site(text, refused),
+        "Text" => push_end(text, input, survey, name),
+        "Side" if (1..=SIDE_LIMIT as u64).contains(&survey.width) => {
+            push_number(text, input, last.number(1), "the height", SIDES)
+        }
+        "Side" => push_number(text, input, last.number(0), "the width", SIDES),
+        "Narrow" => push_number(text, input, last.number(0), "the width", CYLINDER),
+        "NoSite" => push_number(text, input, last.number(drop_index), "the site", NO_SITE),
+        "Unstable" => {
+            let high = first.unstable().or(last.unstable());
+            push_number(
+                text,
+                input,
+                high,
+                "the number of grains",
+                "must be at most 3",
+            )
+        }
+        "Length" => push_length(text, survey, name),
+        "TooManyGrains" | "Full" => push_grains(text, survey, name),
+        "Shapes" => push_shapes(text, &first.survey, survey),
         _ => Ok(()),
     }
 }
 
-// Whether the sentences about the input also say what to do.
-fn says_what_to_do(fault: &str) -> bool {
-    matches!(fault, "Side" | "Length" | "Text")
+// What was found in the input, if the fault with this name is in the input.
+fn push_found(text: &mut String, rejected: &Rejected<'_>, fault: &str) -> Result<(), AllocError> {
+    let Rejected { input, place, .. } = *rejected;
+    match (fault, input.get(place), rejected.piles()) {
+        ("Text", Some(byte), _) => push_strange(text, input, place, *byte),
+        ("TooLarge", _, _) => push_large(text, input, place),
+        (_, _, Some((first, last, name))) => {
+            push_found_in(text, rejected, fault, &first, &last, name)
+        }
+        _ => Ok(()),
+    }
 }
 
-// What to do about a fault, whatever the input.
-fn push_usual(text: &mut String, command: &str, fault: &Explained) -> Result<(), AllocError> {
-    let remedy = match (fault.name, command) {
-        ("Memory", "lab") => LESS_MEMORY_OF_LAB,
-        ("Memory", "drops") => LESS_MEMORY_OF_DROPS,
+// What to do about a fault, given the input.
+fn remedy(rejected: &Rejected<'_>, fault: &Explained) -> &'static str {
+    let Rejected {
+        command,
+        input,
+        place,
+    } = *rejected;
+    match (fault.name, command) {
+        ("Text", "add") if place == input.len() => TWO_PILES,
+        ("Text", _) if place == input.len() => ONE_PILE,
+        ("Text", _) => strange::meaning(input, place).unwrap_or(fault.remedy),
         _ => fault.remedy,
-    };
-    text.push_str(remedy)?;
-    text.push_str("\n")
+    }
 }
 
 /// The advice on a command's fault, by its number: one or two sentences, each with its line end. `place` is the number at
@@ -121,20 +169,21 @@ pub fn advice(
     let Some(fault) = fault_numbered(number) else {
         return Ok(text);
     };
+    let mut what_to_do = fault.remedy;
     if let Some(input) = input {
-        let refused = Refused {
+        let rejected = Rejected {
             command,
             input,
             place,
         };
-        push_found(&mut text, alloc, &refused, fault.name)?;
+        push_found(&mut text, &rejected, fault.name)?;
+        what_to_do = remedy(&rejected, fault);
     }
-    if text.is_empty() && fault.name != "Memory" {
+    if text.is_empty() {
         text.push_str(fault.meaning)?;
         text.push_str("\n")?;
     }
-    if !says_what_to_do(fault.name) || input.is_none() {
-        push_usual(&mut text, command, fault)?;
-    }
+    text.push_str(what_to_do)?;
+    text.push_str("\n")?;
     Ok(text)
 }

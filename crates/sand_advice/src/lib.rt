@@ -10,12 +10,10 @@
 mod advising;
 mod keeping;
 mod misuse;
-mod outline;
-mod piles;
 mod progress;
 mod progress_text;
 mod pushing;
-mod refused;
+mod rejected;
 mod strange;
 
 pub use advising::advice;

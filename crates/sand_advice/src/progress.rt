@@ -25,27 +25,11 @@ const TO_LINE: &str = "\x1b[A\r";
 /// Clears from the cursor to the end of its row.
 const CLEAR: &str = "\x1b[K";
 
-/// A command that drops grains for long.
-#[derive(Clone, Copy)]
-enum LongCommand {
-    Drops,
-    Lab,
-}
-
-impl LongCommand {
-    fn name(self) -> &'static str {
-        match self {
-            LongCommand::Drops => "drops",
-            LongCommand::Lab => "lab",
-        }
-    }
-}
-
-/// Long work: the command, the number of dropping threads, the drops of each of them per epoch, and the number of all
-/// drops.
+/// Long work: the command's name, the number of dropping threads, the drops of each of them per epoch, and the number of
+/// all drops.
 #[derive(Clone, Copy)]
 struct Work {
-    command: LongCommand,
+    name: &'static str,
     droppers: u32,
     turns: u32,
     drops: u64,
@@ -58,13 +42,13 @@ fn work_of(alloc: Global, words: &[String]) -> Option<Work> {
             drawn: Some(draw),
             ..
         } => Some(Work {
-            command: LongCommand::Drops,
+            name: "drops",
             droppers: 1,
             turns: draw.count,
             drops: u64::from(draw.count),
         }),
         Task::Lab { wish, .. } => Some(Work {
-            command: LongCommand::Lab,
+            name: "lab",
             droppers: wish.droppers,
             turns: wish.drops,
             drops: u64::from(wish.droppers)
@@ -165,8 +149,7 @@ impl<'a, R: Eprint + Clock> Progress<'a, R> {
                 .compare_exchange(shown, seconds, SeqCst, SeqCst)
                 .is_ok()
         {
-            let Work { command, drops, .. } = self.work;
-            let name = command.name();
+            let Work { name, drops, .. } = self.work;
             if let Ok(line) = progress_line(self.alloc, name, self.made(), drops, seconds) {
                 self.write_line(line.as_str(), shown == 0);
             }

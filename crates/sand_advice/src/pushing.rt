@@ -1,7 +1,7 @@
 //! Numbers, bytes and positions as they are written in a sentence.
 
-use crate::outline::Outline;
-use sand_text::{column, line};
+use sand_model::Edge;
+use sand_text::{Survey, column, line};
 use std::alloc::AllocError;
 
 /// Appends a position in an input: `line 2, column 3: `. An offset past the end counts as the end.
@@ -34,19 +34,11 @@ pub(crate) fn push_byte(text: &mut String, byte: u8) -> Result<(), AllocError> {
 }
 
 /// Appends the sides of a pile: `3 by 2`, and whether it is a cylinder.
-pub(crate) fn push_sides(text: &mut String, pile: &Outline<'_>) -> Result<(), AllocError> {
-    let width = pile.width.value;
-    let height = pile.height.value;
-    let edge = if pile.is_cylinder {
-        " (a cylinder)"
-    } else {
-        ""
+pub(crate) fn push_sides(text: &mut String, pile: &Survey) -> Result<(), AllocError> {
+    let Survey { width, height, .. } = pile;
+    let edge = match pile.edge {
+        Edge::Open => "",
+        Edge::Cylinder => " (a cylinder)",
     };
     write!(text, "{width} by {height}{edge}")
-}
-
-/// Appends a number of heights: `1 height`, `2 heights`.
-pub(crate) fn push_heights(text: &mut String, count: usize) -> Result<(), AllocError> {
-    let ending = if count == 1 { "" } else { "s" };
-    write!(text, "{count} height{ending}")
 }

@@ -45,11 +45,6 @@ The letter c of a cylinder comes after the height, with white space around it.";
 
 const SPACE: &str = "White space means spaces, tabs and line ends.";
 
-/// How a pile is written.
-pub(crate) const PLAIN: &str = "\
-A pile is a list of numbers separated by white space: its width, its height,
-and the grains on each site, row by row.";
-
 /// What the input may contain from its first unexpected byte on, and what to say about it. The first match counts.
 static BEGINNINGS: [(&[u8], &str); 34] = [
     (b"odometer", SETTLED),
@@ -94,15 +89,15 @@ fn follows_digit(text: &[u8], at: usize) -> bool {
     matches!(before, Some(b'0'..=b'9'))
 }
 
-/// What to say about the unexpected byte at an offset.
-pub(crate) fn meaning(text: &[u8], at: usize) -> &'static str {
+/// What to say about the unexpected byte at an offset, if its meaning is known.
+pub(crate) fn meaning(text: &[u8], at: usize) -> Option<&'static str> {
     let rest = text.get(at..).unwrap_or(&[]);
     let found = BEGINNINGS
         .iter()
         .find(|(beginning, _)| rest.starts_with(beginning));
     match found {
-        Some((_, meaning)) => meaning,
-        None if matches!(rest, [b'e' | b'E', ..]) && follows_digit(text, at) => WHOLE,
-        None => PLAIN,
+        Some((_, meaning)) => Some(meaning),
+        None if matches!(rest, [b'e' | b'E', ..]) && follows_digit(text, at) => Some(WHOLE),
+        None => None,
     }
 }

@@ -5,7 +5,6 @@ pub mod Found
 pub mod HandleSteps
 pub mod Joins
 pub mod LentSteps
-pub mod Near
 pub mod ReadSteps
 pub mod Readers
 pub mod Records
@@ -13,5 +12,5 @@ pub mod Rows
 pub mod SettledAt
 pub mod Sites
 pub mod Unfit
-pub mod WaveRows
+pub mod WaveLists
 mod PartsSteps

@@ -1,15 +1,15 @@
 -- The avalanches, with one more drop.
 use Rattle.std.proofs.Common.{◌≡◌, ℕ, List, [], ◌∷◌, ◌++◌, refl, sym, ap, subst}
 use Rattle.sand_settle.specs.Avalanches.{Avalanche, IsAvalanche}
-use Rattle.sand_settle.specs.Drops.{OneView, grid_of_one_pile, topplings_between, Drops}
+use Rattle.sand_settle.specs.Drops.{DrivenView, grid_of_driven, topplings_between, Drops}
 use Rattle.sand_c.specs.Dropping.{AreAvalanches}
 
-pub rows_push : (v u w : OneView) (sites : List ℕ) (rows : List Avalanche) (site : ℕ) (a : Avalanche)
+pub rows_push : (v u w : DrivenView) (sites : List ℕ) (rows : List Avalanche) (site : ℕ) (a : Avalanche)
     → AreAvalanches v sites rows u → Drops u site w
-    → IsAvalanche (grid_of_one_pile u) site (topplings_between u.settled w.settled) a
+    → IsAvalanche (grid_of_driven u) site (topplings_between u.settled w.settled) a
     → AreAvalanches v (sites ++ site ∷ []) (rows ++ a ∷ []) w
 rows_push v u w [] rows site a (none, same) drop is =
-    let P : OneView → Type 0 = λ x. AreAvalanches x (site ∷ []) (rows ++ a ∷ []) w in
+    let P : DrivenView → Type 0 = λ x. AreAvalanches x (site ∷ []) (rows ++ a ∷ []) w in
     let Q : List Avalanche → Type 0 = λ xs. AreAvalanches u (site ∷ []) (xs ++ a ∷ []) w in
     subst P (sym same) (subst Q (sym none) (w, a, [], drop, is, refl, (refl, refl)))
 rows_push v u w (x ∷ xs) rows site a (m, b, others, first, its, e, rest) drop is =

@@ -4,7 +4,7 @@ use Rattle.sand_model.specs.Grid.{sites}
 use Rattle.sand_model.specs.Piles.{PileView, height_of, most_grains}
 use Rattle.sand_settle.specs.Avalanches.{Avalanche, IsAvalanche}
 use Rattle.sand_settle.specs.Settling.{odometer_of}
-use Rattle.sand_settle.specs.Drops.{OneView, grid_of_one_pile, topplings_between, IsAfter, Drops}
+use Rattle.sand_settle.specs.Drops.{DrivenView, grid_of_driven, topplings_between, IsAfter, Drops}
 use Rattle.sand_c.specs.declared.faults.Fault.{Fault}
 use Rattle.sand_c.specs.declared.faults.Fault.TheVariants.{Length, Full, NoSite, Empty, Taken}
 use Rattle.sand_c.specs.Arguments.{has_length, ◌>>=◌}
@@ -13,26 +13,26 @@ use Rattle.sand_c.specs.Dropping.{AreAvalanches, are_sites}
 -- What a call may do
 
 -- the pile, if it takes so many more grains
-abbrev pub with_room_for : ℕ → OneView → Result OneView Fault
+abbrev pub with_room_for : ℕ → DrivenView → Result DrivenView Fault
 with_room_for count v = if nat_lt most_grains (v.grains + count) then Err Full else Ok v
 
 -- the pile, if these drops can be made on it, and there is an avalanche for each
-abbrev pub drops_on_drive : OneView → List ℕ → ℕ → Result OneView Fault
+abbrev pub drops_on_drive : DrivenView → List ℕ → ℕ → Result DrivenView Fault
 drops_on_drive v drops avalanches = has_length (length drops) avalanches
-    >>= λ _. (if are_sites (sites (grid_of_one_pile v)) drops then with_room_for (length drops) v else Err NoSite)
+    >>= λ _. (if are_sites (sites (grid_of_driven v)) drops then with_room_for (length drops) v else Err NoSite)
 
 -- the pile, if a grain can be dropped at this site, and there is a count for each site
-abbrev pub drop_on_drive : OneView → ℕ → ℕ → Result OneView Fault
-drop_on_drive v site counts = has_length (sites (grid_of_one_pile v)) counts
-    >>= λ _. (if nat_lt site (sites (grid_of_one_pile v)) then with_room_for 1 v else Err NoSite)
+abbrev pub drop_on_drive : DrivenView → ℕ → ℕ → Result DrivenView Fault
+drop_on_drive v site counts = has_length (sites (grid_of_driven v)) counts
+    >>= λ _. (if nat_lt site (sites (grid_of_driven v)) then with_room_for 1 v else Err NoSite)
 
 -- the pile, if an array of this length has an entry for each site, or none
-abbrev pub with_entries : ℕ → OneView → Result OneView Fault
-with_entries n v = if n == 0 then Ok v else (if n == sites (grid_of_one_pile v) then Ok v else Err Length)
+abbrev pub with_entries : ℕ → DrivenView → Result DrivenView Fault
+with_entries n v = if n == 0 then Ok v else (if n == sites (grid_of_driven v) then Ok v else Err Length)
 
 -- the pile, if it has this site
-abbrev pub with_site : ℕ → OneView → Result OneView Fault
-with_site site v = if nat_lt site (sites (grid_of_one_pile v)) then Ok v else Err NoSite
+abbrev pub with_site : ℕ → DrivenView → Result DrivenView Fault
+with_site site v = if nat_lt site (sites (grid_of_driven v)) then Ok v else Err NoSite
 
 -- what a handle holds
 abbrev pub held_in : {A : Type 0} → Option A → Result A Fault
@@ -45,48 +45,48 @@ nothing_in None = Ok tt
 nothing_in (Some v) = Err Taken
 
 -- the arguments, if the handle is empty
-abbrev pub opening_of : Option OneView → Result PileView Fault → Result PileView Fault
+abbrev pub opening_of : Option DrivenView → Result PileView Fault → Result PileView Fault
 opening_of held meaning = nothing_in held >>= λ _. meaning
 
 -- the pile in the handle, if these drops can be made on it
-abbrev pub driving_of : Option OneView → List ℕ → ℕ → Result OneView Fault
+abbrev pub driving_of : Option DrivenView → List ℕ → ℕ → Result DrivenView Fault
 driving_of held drops avalanches = held_in held >>= λ v. drops_on_drive v drops avalanches
 
 -- the pile in the handle, if this drop can be made on it
-abbrev pub avalanche_of : Option OneView → ℕ → ℕ → Result OneView Fault
+abbrev pub avalanche_of : Option DrivenView → ℕ → ℕ → Result DrivenView Fault
 avalanche_of held site counts = held_in held >>= λ v. drop_on_drive v site counts
 
 -- the pile, if arrays of these lengths suit it
-abbrev pub entries_of : OneView → ℕ → ℕ → Result OneView Fault
+abbrev pub entries_of : DrivenView → ℕ → ℕ → Result DrivenView Fault
 entries_of v heights odometer = with_entries heights v >>= with_entries odometer
 
 -- the pile in the handle, if arrays of these lengths suit it
-abbrev pub reading_of : Option OneView → ℕ → ℕ → Result OneView Fault
+abbrev pub reading_of : Option DrivenView → ℕ → ℕ → Result DrivenView Fault
 reading_of held heights odometer = held_in held >>= λ v. entries_of v heights odometer
 
 -- the pile in the handle, if it has this site
-abbrev pub site_of : Option OneView → ℕ → Result OneView Fault
+abbrev pub site_of : Option DrivenView → ℕ → Result DrivenView Fault
 site_of held site = held_in held >>= with_site site
 
 -- What a call does
 
 -- drops at these sites lead from v to w: these are their avalanches, and w is the result of any start and drops that led
 -- to v, followed by these
-pub record HaveDriven (v : OneView) (drops : List ℕ) (rows : List Avalanche) (w : OneView) : Type 0 where
+pub record HaveDriven (v : DrivenView) (drops : List ℕ) (rows : List Avalanche) (w : DrivenView) : Type 0 where
   pub avalanches : AreAvalanches v drops rows w
   pub after : (start : PileView) (history : List ℕ) → IsAfter start history v → IsAfter start (history ++ drops) w
 
 -- a drop at this site leads from v to w: this is its avalanche, and the counts are how often each site topples in it
-pub record HasDriven (v : OneView) (site : ℕ) (a : Avalanche) (counts : List ℕ) (w : OneView) : Type 0 where
+pub record HasDriven (v : DrivenView) (site : ℕ) (a : Avalanche) (counts : List ℕ) (w : DrivenView) : Type 0 where
   pub drops : Drops v site w
-  pub avalanche : IsAvalanche (grid_of_one_pile v) site (topplings_between v.settled w.settled) a
+  pub avalanche : IsAvalanche (grid_of_driven v) site (topplings_between v.settled w.settled) a
   pub after : (start : PileView) (history : List ℕ) → IsAfter start history v → IsAfter start (history ++ site ∷ []) w
-  pub len : length counts ≡ sites (grid_of_one_pile v)
-  pub counts_are : (i : ℕ) → i < sites (grid_of_one_pile v)
+  pub len : length counts ≡ sites (grid_of_driven v)
+  pub counts_are : (i : ℕ) → i < sites (grid_of_driven v)
       → slice_index counts i ≡ topplings_between v.settled w.settled i
 
 -- the arguments are a pile, and v is that pile settled
-pub record IsDriveOf (meaning : Result PileView Fault) (v : OneView) : Type 0 where
+pub record IsDriveOf (meaning : Result PileView Fault) (v : DrivenView) : Type 0 where
   pub start : PileView
   pub meant : meaning ≡ Ok start
   pub after : IsAfter start [] v
@@ -105,17 +105,18 @@ pub record Holds {A : Type 0} (held : Option A) (Is : A → Type 0) : Type 0 whe
   pub holds : held ≡ Some inside
   pub is : Is inside
 
--- these are the heights and the odometer of a driven pile, unless the array has no entry, and its sums
-pub record IsReading (heights odometer : List ℕ) (topplings lost : ℕ) (v : OneView) : Type 0 where
-  pub heights_each : (length heights ≡ 0) ⊎ (length heights ≡ sites (grid_of_one_pile v))
-  pub odometer_each : (length odometer ≡ 0) ⊎ (length odometer ≡ sites (grid_of_one_pile v))
+-- these are the heights and the odometer of a driven pile, unless the array has no entry, its sums, and the number of drops
+pub record IsReading (heights odometer : List ℕ) (topplings lost drops : ℕ) (v : DrivenView) : Type 0 where
+  pub heights_each : (length heights ≡ 0) ⊎ (length heights ≡ sites (grid_of_driven v))
+  pub odometer_each : (length odometer ≡ 0) ⊎ (length odometer ≡ sites (grid_of_driven v))
   pub heights_are : (i : ℕ) → i < length heights → slice_index heights i ≡ height_of v.settled.pile i
   pub odometer_is : (i : ℕ) → i < length odometer → slice_index odometer i ≡ odometer_of v.settled i
   pub topplings_are : topplings ≡ v.settled.topplings
   pub lost_is : lost ≡ v.settled.lost
+  pub drops_are : drops ≡ v.number
 
 -- these are the height of a site of a driven pile, and how often it has toppled
-pub record IsSiteOf (site height topplings : ℕ) (v : OneView) : Type 0 where
-  pub inside : site < sites (grid_of_one_pile v)
+pub record IsSiteOf (site height topplings : ℕ) (v : DrivenView) : Type 0 where
+  pub inside : site < sites (grid_of_driven v)
   pub height_is : height ≡ height_of v.settled.pile site
   pub topplings_are : topplings ≡ odometer_of v.settled site

@@ -1,40 +1,49 @@
 -- What `sandpile_drive_waves` does.
-use Rattle.std.specs.Prelude.{ℕ, ◌≡◌, ◌+◌, ◌-◌, ◌*◌, ◌≤◌, List, [], ◌∷◌, ◌++◌, length, replicate, Option, Result}
+use Rattle.std.specs.Prelude.{ℕ, ◌≡◌, ◌+◌, ◌*◌, ◌≤◌, nat_lt, if◌then◌else◌, List, [], ◌∷◌, ◌++◌, length, take, drop, Option, Result, Err}
 use Rattle.sand_model.specs.Sand.{one_at}
 use Rattle.sand_model.specs.Piles.{height_of}
 use Rattle.sand_model.specs.Edges.{most_to_edge}
 use Rattle.sand_settle.specs.Avalanches.{Avalanche, WavesLead}
-use Rattle.sand_settle.specs.Drops.{OneView, grid_of_one_pile, Drops}
+use Rattle.sand_settle.specs.Drops.{DrivenView, grid_of_driven, Drops}
 use Rattle.sand_c.specs.declared.faults.Fault.{Fault}
-use Rattle.sand_c.specs.Arguments.{has_length, ◌>>=◌}
+use Rattle.sand_c.specs.declared.faults.Fault.TheVariants.{Length}
+use Rattle.sand_c.specs.declared.waves.SandpileWave.{SandpileWave}
+use Rattle.sand_c.specs.Arguments.{◌>>=◌}
 use Rattle.sand_c.specs.Driving.{HaveDriven, held_in, drops_on_drive}
 
--- the pile, if these drops can be made on it, and there is an avalanche for each, and a row of sizes
-abbrev pub waves_on_drive : OneView → List ℕ → ℕ → ℕ → Result OneView Fault
-waves_on_drive v drops avalanches sizes =
-    has_length (length drops * most_to_edge (grid_of_one_pile v)) sizes >>= λ _. drops_on_drive v drops avalanches
+-- the pile, if these drops can be made on it, and there is an avalanche for each, and room for all waves that they may have
+abbrev pub waves_on_drive : DrivenView → List ℕ → ℕ → ℕ → Result DrivenView Fault
+waves_on_drive v drops avalanches room =
+    if nat_lt room (length drops * most_to_edge (grid_of_driven v)) then Err Length else drops_on_drive v drops avalanches
 
 -- the pile in the handle, if these drops can be made on it
-abbrev pub waves_of : Option OneView → List ℕ → ℕ → ℕ → Result OneView Fault
-waves_of held drops avalanches sizes = held_in held >>= λ v. waves_on_drive v drops avalanches sizes
+abbrev pub waves_of : Option DrivenView → List ℕ → ℕ → ℕ → Result DrivenView Fault
+waves_of held drops avalanches room = held_in held >>= λ v. waves_on_drive v drops avalanches room
 
--- the row of a drop at a site that leads from v to w: the sizes of its waves, and then zeros
-pub record IsRowOfWaves (v : OneView) (site : ℕ) (row : List ℕ) (w : OneView) : Type 0 where
+-- waves of these sizes, of one drop, which is number n, from its wave k on
+abbrev pub waves_from : ℕ → ℕ → List ℕ → List SandpileWave
+waves_from n k [] = []
+waves_from n k (size ∷ sizes) = record { number = n; wave = k; size = size } ∷ waves_from n (k + 1) sizes
+
+-- a drop at a site leads from v to w, and these are its waves, in order
+pub record AreWavesOf (v : DrivenView) (site : ℕ) (waves : List SandpileWave) (w : DrivenView) : Type 0 where
   pub sizes : List ℕ
-  pub waves : WavesLead (grid_of_one_pile v) site (λ j. height_of v.settled.pile j + one_at site j) sizes
+  pub lead : WavesLead (grid_of_driven v) site (λ j. height_of v.settled.pile j + one_at site j) sizes
       (height_of w.settled.pile)
-  pub few : length sizes ≤ most_to_edge (grid_of_one_pile v)
-  pub row_is : row ≡ sizes ++ replicate (most_to_edge (grid_of_one_pile v) - length sizes) 0
+  pub waves_are : waves ≡ waves_from v.number 0 sizes
 
--- drops at these sites lead from v to w, and the list has the row of each
-abbrev pub AreRowsOfWaves : OneView → List ℕ → List ℕ → OneView → Type 0
-AreRowsOfWaves v [] rows w = (rows ≡ []) × (v ≡ w)
-AreRowsOfWaves v (site ∷ drops) rows w =
-    (u : OneView) × (row : List ℕ) × (others : List ℕ)
-    × Drops v site u × IsRowOfWaves v site row u × (rows ≡ row ++ others) × AreRowsOfWaves u drops others w
+-- drops at these sites lead from v to w, and the list has the waves of each, one drop after another
+abbrev pub AreWaves : DrivenView → List ℕ → List SandpileWave → DrivenView → Type 0
+AreWaves v [] waves w = (waves ≡ []) × (v ≡ w)
+AreWaves v (site ∷ drops) waves w =
+    (u : DrivenView) × (first : List SandpileWave) × (others : List SandpileWave)
+    × Drops v site u × AreWavesOf v site first u × (waves ≡ first ++ others) × AreWaves u drops others w
 
--- what `HaveDriven` says, and the sizes of the waves of each drop
-pub record HaveDrivenInWaves (v : OneView) (drops : List ℕ) (avalanches : List Avalanche) (sizes : List ℕ) (w : OneView)
-    : Type 0 where
+-- what `HaveDriven` says, and a list begins with the waves of the drops, so many; the rest of it stays
+pub record HaveDrivenInWaves (v : DrivenView) (drops : List ℕ) (avalanches : List Avalanche)
+    (before after : List SandpileWave) (count : ℕ) (w : DrivenView) : Type 0 where
   pub driven : HaveDriven v drops avalanches w
-  pub waves : AreRowsOfWaves v drops sizes w
+  pub waves : AreWaves v drops (take count after) w
+  pub fit : count ≤ length after
+  pub rest : drop count after ≡ drop count before
+  pub len : length after ≡ length before

@@ -4,17 +4,17 @@ ghost use Rattle.std.specs.Prelude.{◌≡◌, ◌≢◌, ◌+◌, ◌-◌, ◌<
 ghost use Rattle.sand_model.specs.Grid.{sites};
 ghost use Rattle.sand_model.specs.Piles.{height_of, most_grains};
 ghost use Rattle.sand_settle.specs.Settling.{odometer_of};
-ghost use Rattle.sand_settle.specs.Drops.{grid_of_one_pile, IsAfter};
+ghost use Rattle.sand_settle.specs.Drops.{grid_of_driven, IsAfter};
 ghost use Rattle.sand_c.specs.Arguments.{Fails};
 ghost use Rattle.sand_c.specs.Driving.{HaveDriven, HasDriven, IsReading, IsSiteOf, drops_on_drive, drop_on_drive, entries_of, with_site};
 ghost use Rattle.sand_c.specs.KeptOdometers.{IsOdometer};
 ghost use Rattle.sand_c.specs.Waves.{HaveDrivenInWaves, waves_on_drive};
 
-use crate::SandpileAvalanche;
 use crate::dropping::{are_sites, drop_all};
 use crate::faults::Fault;
 use crate::kept_odometer::{read_odometer, take_topplings};
-use crate::waves::drop_in_rows;
+use crate::waves::drop_all_in_list;
+use crate::{SandpileAvalanche, SandpileWave};
 use sand_model::{GRAIN_LIMIT, Pile};
 use sand_settle::DrivenPile;
 use std::alloc::{AllocError, Global};
@@ -32,10 +32,10 @@ pub struct Drive {
 }
 
 impl Model for Drive {
-    ghost use Rattle.sand_settle.specs.Drops.{OneView};
+    ghost use Rattle.sand_settle.specs.Drops.{DrivenView};
     ghost use Rattle.sand_c.specs.KeptOdometers.{IsDrive};
 
-    ghost Value = { OneView };
+    ghost Value = { DrivenView };
 
     ghost view = { λ d. d.pile };
 
@@ -61,7 +61,7 @@ impl Drive {
 
     // The number of sites.
     fn sites(&self) -> usize
-        ensures { result ≡ sites (grid_of_one_pile self.now) }
+        ensures { result ≡ sites (grid_of_driven self.now) }
     {
         self.pile.shape().sites()
     }
@@ -70,7 +70,7 @@ impl Drive {
     fn may_drop(&self, drops: &[usize], avalanches: usize) -> Result<(), Fault>
         ensures may { OnOk result (drops_on_drive self.now drops.now avalanches ≡ Ok self.now) }
         ensures avalanches { OnOk result (avalanches ≡ length drops.now) }
-        ensures sites { OnOk result (All (λ site. site < sites (grid_of_one_pile self.now)) drops.now) }
+        ensures sites { OnOk result (All (λ site. site < sites (grid_of_driven self.now)) drops.now) }
         ensures room { OnOk result (self.now.grains + length drops.now ≤ most_grains) }
         ensures fault { IfErr result (λ e. drops_on_drive self.now drops.now avalanches ≡ Err e) }
     {
@@ -107,38 +107,42 @@ impl Drive {
         Ok(())
     }
 
-    /// The same, and writes a row with the sizes of the waves of each drop.
+    /// The same, and writes the waves of each drop after those before. Returns how many waves there are.
     pub(crate) fn drop_in_waves(
         &mut self,
         drops: &[usize],
         avalanches: &mut [SandpileAvalanche],
-        sizes: &mut [u64],
-    ) -> Result<(), Fault>
-        ensures driven { OnOk result (HaveDrivenInWaves self.old drops.now avalanches.new sizes.new self.new) }
+        waves: &mut [SandpileWave],
+    ) -> Result<usize, Fault>
+        ensures driven { IfOk result (λ count.
+            HaveDrivenInWaves self.old drops.now avalanches.new waves.old waves.new count self.new) }
         ensures may { OnOk result
-            (waves_on_drive self.old drops.now (length avalanches.old) (length sizes.old) ≡ Ok self.old) }
+            (waves_on_drive self.old drops.now (length avalanches.old) (length waves.old) ≡ Ok self.old) }
         ensures fault { IfErr result
-            (λ e. waves_on_drive self.old drops.now (length avalanches.old) (length sizes.old) ≡ Err e) }
+            (λ e. waves_on_drive self.old drops.now (length avalanches.old) (length waves.old) ≡ Err e) }
         ensures unchanged { OnErr result (self.new ≡ self.old) }
         ensures avalanches { OnErr result (avalanches.new ≡ avalanches.old) }
-        ensures sizes { OnErr result (sizes.new ≡ sizes.old) }
+        ensures waves { OnErr result (waves.new ≡ waves.old) }
     {
         let most = self.pile.shape().most_to_edge();
-        if drops.len().checked_mul(most) != Some(sizes.len()) {
+        let Some(needed) = drops.len().checked_mul(most) else {
+            return Err(Fault::Length);
+        };
+        if needed > waves.len() {
             return Err(Fault::Length);
         }
         self.may_drop(drops, avalanches.len())?;
-        drop_in_rows(&mut self.pile, drops, avalanches, sizes);
+        let count = drop_all_in_list(&mut self.pile, drops, avalanches, waves);
         self.room -= drops.len() as u64;
         self.is_current = false;
-        Ok(())
+        Ok(count)
     }
 
     // Writes the heights.
     fn read_heights(&self, heights: &mut [u64])
-        requires { length heights.old ≡ sites (grid_of_one_pile self.now) }
+        requires { length heights.old ≡ sites (grid_of_driven self.now) }
         ensures len { length heights.new ≡ length heights.old }
-        ensures heights { (i : ℕ) → i < sites (grid_of_one_pile self.now)
+        ensures heights { (i : ℕ) → i < sites (grid_of_driven self.now)
             → slice_index heights.new i ≡ height_of self.now.settled.pile i }
     {
         self.pile.read_heights(heights);
@@ -146,7 +150,7 @@ impl Drive {
 
     // Writes how often each site has toppled.
     fn read_odometer(&self, odometer: &mut [u64])
-        requires { length odometer.old ≡ sites (grid_of_one_pile self.now) }
+        requires { length odometer.old ≡ sites (grid_of_driven self.now) }
         ensures { IsOdometer odometer.new self.now }
     {
         if self.is_current {
@@ -163,14 +167,16 @@ impl Drive {
         odometer: &mut [u64],
         topplings: &mut u64,
         lost: &mut u64,
+        drops: &mut u64,
     ) -> Result<(), Fault>
-        ensures read { OnOk result (IsReading heights.new odometer.new topplings.new lost.new self.now) }
+        ensures read { OnOk result (IsReading heights.new odometer.new topplings.new lost.new drops.new self.now) }
         ensures meant { OnOk result (IsOk (entries_of self.now (length heights.old) (length odometer.old))) }
         ensures fault { IfErr result (λ e. entries_of self.now (length heights.old) (length odometer.old) ≡ Err e) }
         ensures heights { OnErr result (heights.new ≡ heights.old) }
         ensures odometer { OnErr result (odometer.new ≡ odometer.old) }
         ensures topplings { OnErr result (topplings.new ≡ topplings.old) }
         ensures lost { OnErr result (lost.new ≡ lost.old) }
+        ensures drops { OnErr result (drops.new ≡ drops.old) }
     {
         let sites = self.sites();
         let wants_heights = heights.len() != 0;
@@ -188,6 +194,7 @@ impl Drive {
         }
         *topplings = self.pile.topplings();
         *lost = self.pile.lost();
+        *drops = self.pile.tally();
         Ok(())
     }
 

@@ -1,7 +1,7 @@
 //! A driven pile that C holds: one pointer, null or at the pile in a block of its own.
 
 ghost use Rattle.std.specs.Prelude.{◌≡◌, Option, Some, None, MatchOption};
-ghost use Rattle.sand_settle.specs.Drops.{OneView};
+ghost use Rattle.sand_settle.specs.Drops.{DrivenView};
 ghost use Rattle.std.specs.Coded.{coded_option};
 ghost use Rattle.sand_c.specs.Handles.{owns_at};
 ghost use Rattle.sand_c.specs.contracts.drive.Drive.{the_row};
@@ -17,7 +17,7 @@ use std::ptr::null_mut;
 #[derive(Drop)]
 pub struct SandpileDrive {
     at: *mut u8,
-    pub ghost held: { Option OneView } by { coded_option the_row.coded },
+    pub ghost held: { Option DrivenView } by { coded_option the_row.coded },
 }
 
 impl Model for SandpileDrive {

@@ -7,11 +7,11 @@ ghost use Rattle.sand_c.specs.Arguments.{sides_of, Fails, Answers, Returns, pile
 ghost use Rattle.sand_c.specs.Driving.{IsDriveOf, Holds, LeadsTo, HaveDriven, HasDriven, opening_of, driving_of, avalanche_of};
 ghost use Rattle.sand_c.specs.Waves.{HaveDrivenInWaves, waves_of};
 
-use crate::SandpileAvalanche;
 use crate::arguments::{Sides, pile_in, sides_of};
 use crate::drive::Drive;
 use crate::drive_handle::SandpileDrive;
 use crate::faults::{Fault, answer};
+use crate::{SandpileAvalanche, SandpileWave};
 use std::alloc::Global;
 
 // A driven pile with the start in the arguments, in a block of its own.
@@ -79,9 +79,9 @@ pub extern "C" fn sandpile_drive_drop(
     answer(driven)
 }
 
-/// Drops a grain at each site in turn, as `sandpile_drive_drop` does. Also writes a row of numbers for each drop, as many
-/// as the greatest distance of a site to the nearest open edge, counted from 1: the sizes of its waves, and then zeros.
-/// Returns 0, or the first of 26 (Empty), 2 (Length of a slice), 25 (NoSite) and 6 (Full).
+/// Drops a grain at each site in turn, as `sandpile_drive_drop` does. Also writes the waves of each drop after those before,
+/// and how many waves there are. Each drop needs room for as many waves as the greatest distance of a site to the nearest
+/// open edge, counted from 1. Returns 0, or the first of 26 (Empty), 2 (Length of a slice), 25 (NoSite) and 6 (Full).
 #[tactic(auto, using(crate::proofs::Answered::returned))]
 #[unsafe(no_mangle)]
 pub extern "C" fn sandpile_drive_waves(
@@ -89,21 +89,29 @@ pub extern "C" fn sandpile_drive_waves(
     drive: &mut SandpileDrive,
     drops: &[usize],
     avalanches: &mut [SandpileAvalanche],
-    sizes: &mut [u64],
+    waves: &mut [SandpileWave],
+    count: &mut usize,
 ) -> u32
-    ensures driven { result ≡ 0
-        → LeadsTo drive.old.held (λ v w. HaveDrivenInWaves v drops.now avalanches.new sizes.new w) drive.new.held }
-    ensures answer { Returns result (waves_of drive.old.held drops.now (length avalanches.old) (length sizes.old)) }
+    ensures driven { result ≡ 0 → LeadsTo drive.old.held
+        (λ v w. HaveDrivenInWaves v drops.now avalanches.new waves.old waves.new count.new w) drive.new.held }
+    ensures answer { Returns result (waves_of drive.old.held drops.now (length avalanches.old) (length waves.old)) }
     ensures drive { result ≢ 0 → drive.new.held ≡ drive.old.held }
     ensures avalanches { result ≢ 0 → avalanches.new ≡ avalanches.old }
-    ensures sizes { result ≢ 0 → sizes.new ≡ sizes.old }
+    ensures waves { result ≢ 0 → waves.new ≡ waves.old }
+    ensures count { result ≢ 0 → count.new ≡ count.old }
 {
     let Some(mut held) = drive.take(alloc) else {
         return Fault::Empty.number();
     };
-    let driven = held.drop_in_waves(drops, avalanches, sizes);
+    let driven = held.drop_in_waves(drops, avalanches, waves);
     drive.put(held);
-    answer(driven)
+    match driven {
+        Ok(written) => {
+            *count = written;
+            0
+        }
+        Err(fault) => fault.number(),
+    }
 }
 
 /// Drops a grain at a site. Writes its avalanche, and how often each site topples in it. Returns 0, or the first of 26

@@ -36,7 +36,6 @@ pub use driving::{
     sandpile_drive_avalanche, sandpile_drive_drop, sandpile_drive_free, sandpile_drive_new,
     sandpile_drive_waves,
 };
-pub use dropping::sandpile_drop;
 pub use faults::Fault;
 pub use group::{
     sandpile_add, sandpile_identity, sandpile_inverse, sandpile_multiple, sandpile_recurrent,
@@ -54,3 +53,4 @@ pub use settling::{sandpile_settle, sandpile_settle_all};
 pub use streams::sandpile_sites;
 pub use trees::{sandpile_burn_times, sandpile_of_tree, sandpile_random, sandpile_tree};
 pub use version::sandpile_version;
+pub use waves::SandpileWave;

@@ -1,7 +1,7 @@
 //! Calls that only read what a handle holds. Any number may run on one handle at the same time.
 
 ghost use Rattle.std.specs.Prelude.{◌≡◌, ◌≢◌, length};
-ghost use Rattle.sand_settle.specs.Drops.{OneView};
+ghost use Rattle.sand_settle.specs.Drops.{DrivenView};
 ghost use Rattle.sand_c.specs.Arguments.{Returns};
 ghost use Rattle.sand_c.specs.Driving.{Holds, IsReading, IsSiteOf, held_in, reading_of, site_of};
 ghost use Rattle.sand_c.specs.Handles.{Lent, is_lent, seen_in};
@@ -26,23 +26,25 @@ fn read_in(
     odometer: &mut [u64],
     topplings: &mut u64,
     lost: &mut u64,
+    drops: &mut u64,
 ) -> u32
     ensures read { result ≡ 0
-        → Holds (seen_in held.entry) (IsReading heights.new odometer.new topplings.new lost.new) }
+        → Holds (seen_in held.entry) (IsReading heights.new odometer.new topplings.new lost.new drops.new) }
     ensures answer { Returns result (reading_of (seen_in held.entry) (length heights.old) (length odometer.old)) }
     ensures heights { result ≢ 0 → heights.new ≡ heights.old }
     ensures odometer { result ≢ 0 → odometer.new ≡ odometer.old }
     ensures topplings { result ≢ 0 → topplings.new ≡ topplings.old }
     ensures lost { result ≢ 0 → lost.new ≡ lost.old }
+    ensures drops { result ≢ 0 → drops.new ≡ drops.old }
 {
     let Some(held) = held else {
         return Fault::Empty.number();
     };
-    answer(held.read(heights, odometer, topplings, lost))
+    answer(held.read(heights, odometer, topplings, lost, drops))
 }
 
-/// Writes the heights now, how often each site has toppled since the start, the number of topplings and the grains
-/// lost. An array of length 0 is left out. Returns 0, or the first of 26 (Empty) and 2 (Length of a slice).
+/// Writes the heights now, how often each site has toppled since the start, the number of topplings, the grains lost and
+/// the number of drops. An array of length 0 is left out. Returns 0, or the first of 26 (Empty) and 2 (Length of a slice).
 #[unsafe(no_mangle)]
 pub extern "C" fn sandpile_drive_read(
     drive: &SandpileDrive,
@@ -50,17 +52,19 @@ pub extern "C" fn sandpile_drive_read(
     odometer: &mut [u64],
     topplings: &mut u64,
     lost: &mut u64,
+    drops: &mut u64,
 ) -> u32
-    ghost lent: { Lent OneView }
+    ghost lent: { Lent DrivenView }
     requires* { sem 𝓛 (is_lent drive_row drive.now.0 lent) }
     ensures* back { sem 𝓛 (flft lent.life lent.share) }
     ensures read { result ≡ 0
-        → Holds lent.held (IsReading heights.new odometer.new topplings.new lost.new) }
+        → Holds lent.held (IsReading heights.new odometer.new topplings.new lost.new drops.new) }
     ensures answer { Returns result (reading_of lent.held (length heights.old) (length odometer.old)) }
     ensures heights { result ≢ 0 → heights.new ≡ heights.old }
     ensures odometer { result ≢ 0 → odometer.new ≡ odometer.old }
     ensures topplings { result ≢ 0 → topplings.new ≡ topplings.old }
     ensures lost { result ≢ 0 → lost.new ≡ lost.old }
+    ensures drops { result ≢ 0 → drops.new ≡ drops.old }
 {
     let at = drive.0 as *const Drive;
     let held = if at.is_null() {
@@ -68,7 +72,7 @@ pub extern "C" fn sandpile_drive_read(
     } else {
         Some(unsafe { &*at })
     };
-    read_in(held, heights, odometer, topplings, lost)
+    read_in(held, heights, odometer, topplings, lost, drops)
 }
 
 // What `sandpile_drive_site` does with the pile in its handle.
@@ -101,7 +105,7 @@ pub extern "C" fn sandpile_drive_site(
     height: &mut u64,
     topplings: &mut u64,
 ) -> u32
-    ghost lent: { Lent OneView }
+    ghost lent: { Lent DrivenView }
     requires* { sem 𝓛 (is_lent drive_row drive.now.0 lent) }
     ensures* back { sem 𝓛 (flft lent.life lent.share) }
     ensures read { result ≡ 0 → Holds lent.held (IsSiteOf site height.new topplings.new) }

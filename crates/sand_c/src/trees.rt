@@ -11,9 +11,9 @@ use crate::arguments::{Sides, grid_for, grid_of, sides_of};
 use crate::faults::Fault;
 use crate::group::recurrent_on;
 use sand_group::{Recurrent, burning_times};
-use sand_model::{Pile, Shape};
-use sand_trees::{Tree, pile_of_tree, random_tree, tree_of_pile};
-use std::alloc::{AllocError, Global};
+use sand_model::Pile;
+use sand_trees::{Tree, pile_of_tree, random_recurrent, tree_of_pile};
+use std::alloc::Global;
 
 // The steps in which the sites of the pile in the arguments burn, if there are `places` for them.
 fn times_in(alloc: Global, sides: Sides, heights: &[u64], places: usize) -> Result<Vec<u32>, Fault>
@@ -59,14 +59,6 @@ fn pile_of(
     }
     let tree = Tree::from_directions(alloc, shape, directions)?;
     Ok(pile_of_tree(alloc, &tree)?)
-}
-
-// The pile of the random tree of a stream.
-fn random_in(alloc: Global, shape: Shape, seed: u64, stream: u64) -> Result<Recurrent, AllocError>
-    ensures grid { IfOk result (λ c. c.grid ≡ shape) }
-{
-    let tree = random_tree(alloc, shape, seed, stream)?;
-    pile_of_tree(alloc, &tree)
 }
 
 /// Writes the step in which each site of a stable pile burns, from 1 on, and 0 for each site that never does. Returns 0,
@@ -177,7 +169,7 @@ pub extern "C" fn sandpile_random(
     if heights.len() != shape.sites() {
         return Fault::Length.number();
     }
-    match random_in(alloc, shape, seed, stream) {
+    match random_recurrent(alloc, shape, seed, stream) {
         Ok(recurrent) => {
             heights.copy_from_slice(recurrent.pile().heights());
             0

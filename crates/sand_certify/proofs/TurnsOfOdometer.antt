@@ -17,6 +17,7 @@ use Rattle.sand_certify.proofs.OneByOne.{without, one_less, one_by_one}
 
 -- ---- no topplings of an odometer can be taken back
 
+-- if the sites of a forbidden set toppled once less, the pile would still be stable
 stabilises_without : (g : Grid) (s u t : ℕ → ℕ) (set : ℕ → Bool) → IsSettled g s u t
     → IsForbidden g t set → ((i : ℕ) → i < sites g → set i ≡ true → 0 < u i)
     → Stabilises g s (λ j. u j - one_if (set j))

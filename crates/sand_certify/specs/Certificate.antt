@@ -1,5 +1,5 @@
 -- What shows that counts are the least odometer of a pile.
--- Sources: Fey, Levine and Peres 2010 (least action), Friedrich and Levine 2010 (nothing can be untoppled), Dhar 1990
+-- Sources: Fey, Levine and Peres 2010 (least action), Friedrich and Levine 2013 (nothing can be untoppled), Dhar 1990
 -- (burning).
 use Rattle.std.specs.Prelude.{ℕ, ◌≡◌, ◌+◌, ◌*◌, ◌^◌, ◌<◌, ◌≤◌, List, All, length, slice_index, count_by, nat_le}
 use Rattle.sand_model.specs.Grid.{Grid, sites, neighbours}

@@ -1,11 +1,7 @@
 -- If no two arguments share an id, each argument is the only one with its id.
-use Rattle.std.proofs.lemmas.Grind.{common_steps}
-use Rattle.std.proofs.Common.{arith, ◌≡◌, Bool, true, not, ◌&&◌, List, [], ◌∷◌, refl}
+use Rattle.sand_cli.proofs.Common.{common_steps, arith, ◌≡◌, Bool, true, not, ◌&&◌, List, [], ◌∷◌, refl, bytes_eq, bytes_eq-Decides, Text, both}
 use Rattle.std.specs.List.{list_all}
-use Rattle.std.specs.Str.{bytes_eq}
-use Rattle.std.proofs.lemmas.Slice.Eq.{bytes_eq-Decides}
-use Rattle.clap.specs.Words.{Rule, Text}
-use Rattle.clap.proofs.WalkLemmas.{both}
+use Rattle.clap.specs.Words.{Rule}
 use Rattle.sand_cli.proofs.Each.{Each, each_both}
 
 -- no argument has the id

@@ -1,7 +1,6 @@
 -- A property of each element of a list.
-use Rattle.std.proofs.lemmas.Grind.{common_steps}
-use Rattle.std.proofs.Common.{arith, Bool, List, [], ◌∷◌, ◌++◌}
-use Rattle.std.specs.Prelude.{IfSome, ⊤, find}
+use Rattle.sand_cli.proofs.Common.{common_steps, arith, Bool, List, [], ◌∷◌, ◌++◌, IfSome, find}
+use Rattle.std.specs.Prelude.{⊤}
 
 abbrev pub Each : {X : Type 0} → (X → Type 0) → List X → Type 0
 Each P [] = ⊤

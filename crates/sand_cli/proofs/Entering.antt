@@ -1,12 +1,6 @@
 -- A command line that requires a command enters one if it accepts the words.
-use Rattle.std.proofs.lemmas.Grind.{common_steps}
-use Rattle.std.proofs.Common.{arith}
-use Rattle.std.proofs.Common.{◌≡◌, Bool, true, false, not, ◌&&◌, List, [], Option, Some, None}
-use Rattle.std.specs.Prelude.{find}
-use Rattle.clap.specs.Kinds.{Kinds, check_kinds, or_else}
-use Rattle.clap.specs.Walk.{Text, answers_to, nothing_held, stop_after}
-use Rattle.clap.specs.Simple.{App, Shape, label_of, names_of}
-use Rattle.clap.specs.Faults.{built_fault, level_fault}
+use Rattle.sand_cli.proofs.Common.{common_steps, arith, ◌≡◌, Bool, true, false, not, ◌&&◌, List, [], Option, Some, None, find, Kinds, check_kinds, or_else, answers_to, nothing_held, stop_after, App, Shape, label_of, names_of, built_fault, level_fault}
+use Rattle.clap.specs.Walk.{Text}
 
 -- if two steps in a row do not fail, neither step does
 pub first_passes : (a b : Kinds) → or_else a b ≡ [] → a ≡ []

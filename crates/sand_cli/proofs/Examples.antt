@@ -1,16 +1,11 @@
 -- The definitions, tried on example words; `program` is the first word.
-use Rattle.std.proofs.Common.{◌≡◌, List, [], ◌∷◌, Option, None, Some, codes, false, refl, true}
-use Rattle.clap.specs.Words.{Kinds, Text}
+use Rattle.sand_cli.proofs.Common.{◌≡◌, List, [], ◌∷◌, Option, None, Some, codes, false, refl, true, Text, asked, conflict_among, faults, Conflict, PileAndJournal, PileAndGraymap, PileAndTable, Uncounted, Task, Drops, Identity, Lab, Settle}
+use Rattle.clap.specs.Words.{Kinds}
 use Rattle.clap.specs.declared.error.kind.ErrorKind.TheVariants.{DisplayHelp, InvalidSubcommand, MissingRequiredArgument, MissingSubcommand, UnknownArgument, ValueValidation}
 use Rattle.clap.proofs.OnLiterals.{clap_on_literals}
 use Rattle.sand_cli.specs.Line.{command_line}
-use Rattle.sand_cli.specs.Asked.{asked, conflict_among, faults}
-use Rattle.sand_cli.specs.declared.fault.Conflict.{Conflict}
-use Rattle.sand_cli.specs.declared.fault.Conflict.TheVariants.{PileAndJournal, PileAndGraymap, PileAndTable, Uncounted}
 use Rattle.sand_cli.specs.declared.task.Form.TheVariants as forms
 use Rattle.sand_cli.specs.declared.task.Part.TheVariants.{All}
-use Rattle.sand_cli.specs.declared.task.Task.{Task}
-use Rattle.sand_cli.specs.declared.task.Task.TheVariants.{Drops, Identity, Lab, Settle}
 use Rattle.sand_cli.proofs.Each.{Each}
 
 -- what words ask for

@@ -1,6 +1,5 @@
 -- The command line is within clap's model.
-use Rattle.std.proofs.Common.{◌≡◌, true, refl}
-use Rattle.clap.specs.Words.{is_simple, is_simple_and_free}
+use Rattle.sand_cli.proofs.Common.{◌≡◌, true, refl, is_simple, is_simple_and_free}
 use Rattle.clap.proofs.OnLiterals.{clap_on_literals}
 use Rattle.sand_cli.specs.Line.{command_line}
 

@@ -1,17 +1,10 @@
 -- If clap's model responds with help, it reports no other kind of error.
-use Rattle.std.proofs.lemmas.Grind.{common_steps}
-use Rattle.std.proofs.Common.{arith, ◌≡◌, ℕ, Bool, true, false, cond, zero, suc, List, [], ◌∷◌, Option, Some, None, refl, length}
-use Rattle.std.specs.Prelude.{IfSome, find}
-use Rattle.std.specs.Option.{option_map_or}
-use Rattle.clap.specs.Kinds.{IsAmong, Kinds, check_kinds, or_else, range_kinds, request_kinds, value_kinds, values_kinds}
-use Rattle.clap.specs.Walk.{Held, Names, Row, Rule, Step, Text, Walk, answers_to, arg_by_id, arg_by_long, attached_value, nothing_held, walked, with_default}
-use Rattle.clap.specs.Simple.{App, Shape, argument_words, built, label_of, names_of}
-use Rattle.clap.specs.Faults.{action_fault, count_fault, defaults_fault, entered_fault, flag_word_fault, flags_fault, level_fault, long_fault, option_fault, other_fault, react_fault, set_fault, settle_fault, short_fault, step_fault, turn_fault, use_fault, walk_fault}
+use Rattle.sand_cli.proofs.Common.{common_steps, arith, ◌≡◌, ℕ, Bool, true, false, cond, zero, suc, List, [], ◌∷◌, Option, Some, None, refl, length, IfSome, find, option_map_or, IsAmong, Kinds, check_kinds, or_else, range_kinds, request_kinds, value_kinds, values_kinds, Held, Names, Row, Rule, Step, Walk, answers_to, arg_by_id, arg_by_long, attached_value, nothing_held, walked, with_default, App, Shape, argument_words, built, label_of, names_of, action_fault, count_fault, entered_fault, flag_word_fault, level_fault, long_fault, option_fault, other_fault, react_fault, set_fault, settle_fault, short_fault, step_fault, turn_fault, use_fault, ValueParser, AskForHelp, faults}
+use Rattle.clap.specs.Walk.{Text}
+use Rattle.clap.specs.Faults.{defaults_fault, flags_fault, walk_fault}
 use Rattle.clap.specs.declared.builder.action.ArgAction.{ArgAction}
-use Rattle.clap.specs.declared.builder.value_parser.ValueParser.{ValueParser}
 use Rattle.clap.specs.declared.error.kind.ErrorKind.{ErrorKind}
 use Rattle.clap.specs.declared.error.kind.ErrorKind.TheVariants as kind
-use Rattle.sand_cli.specs.Asked.{AskForHelp, faults}
 use Rattle.sand_cli.specs.Line.{command_line}
 use Rattle.sand_cli.proofs.Each.{Each, each_found}
 

@@ -15,3 +15,4 @@ pub mod Taken
 pub mod Usual
 pub mod Walks
 pub mod Within
+pub mod Common

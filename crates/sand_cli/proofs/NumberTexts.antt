@@ -1,18 +1,11 @@
 -- How clap reads the digits of a number: as that number, and never as an option.
-use Rattle.std.proofs.lemmas.Grind.{common_steps}
-use Rattle.std.proofs.Common.{◌≡◌, ◌∙◌, ◌<◌, ◌≤◌, ◌^◌, ℕ, true, false, Some, None, sym, ap, subst, codes, decimal, get_or, arith}
-use Rattle.std.specs.Str.{bytes_eq}
-use Rattle.std.specs.Str.Parse.{digits_value, without_leading_plus, IsNumeral}
+use Rattle.sand_cli.proofs.Common.{common_steps, ◌≡◌, ◌∙◌, ◌<◌, ◌≤◌, ◌^◌, ℕ, true, false, Some, None, sym, ap, subst, codes, decimal, get_or, arith, bytes_eq, digits_value, without_leading_plus, IsNumeral, bytes_eq-Decides, is_unsigned_in, Text, number_of}
 use Rattle.std.proofs.lemmas.Bool.{ne_eqb}
 use Rattle.std.proofs.lemmas.Fmt.{decimal_digit, decimal_is_IsNumeral, first_decimal}
-use Rattle.std.proofs.lemmas.Slice.Eq.{bytes_eq-Decides}
 use Rattle.std.proofs.lemmas.Str.Parse.{without_leading_plus_none}
 use Rattle.clap.specs.Lexer.{long_of, short_of}
-use Rattle.clap.specs.ValueTests.{is_unsigned_in}
-use Rattle.clap.specs.Words.{Text}
 use Rattle.clap.specs.declared.builder.value_parser.ValueParser.TheVariants as parser
 use Rattle.clap.proofs.ValueTestLemmas.{Accepts-accepts}
-use Rattle.sand_cli.specs.Options.{number_of}
 use Rattle.sand_cli.proofs.Reading.{passed_number}
 
 pub record IsNoOption (text : Text) : Type 0 where

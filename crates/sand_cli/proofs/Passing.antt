@@ -1,24 +1,15 @@
 -- After a level of a parse passes, each argument that takes a value and has a row holds a value that passed its parser.
-use Rattle.std.proofs.lemmas.Grind.{common_steps}
-use Rattle.std.proofs.Common.{arith, ◌≡◌, ◌∙◌, ℕ, Bool, true, false, cond, ◌||◌, zero, suc, List, [], ◌∷◌, ◌++◌, Option, Some, None, is_some, refl, sym, ap, fold, true≢false}
-use Rattle.std.specs.Prelude.{IfSome, find, option_and_then, option_map, slice_get}
-use Rattle.std.specs.Option.{option_map_or}
-use Rattle.std.specs.Str.{bytes_eq}
+use Rattle.sand_cli.proofs.Common.{common_steps, arith, ◌≡◌, ◌∙◌, ℕ, Bool, true, false, cond, ◌||◌, zero, suc, List, [], ◌∷◌, ◌++◌, Option, Some, None, is_some, refl, sym, ap, fold, true≢false, IfSome, find, option_and_then, option_map, slice_get, option_map_or, bytes_eq, bytes_eq-Decides, Kinds, or_else, value_kinds, accepts, ValueParser, Held, Names, Outcome, Row, Rule, Step, Waiting, Walk, action_of, after_flag, after_step, arg_by_id, at_row, attached_value, counted, flag_met, has_row, long_met, long_or_other, option_met, plain_word, one_of, reacted, reading_by, row_text, rows_after, settled, settled_rows, short_met, takes_values, used, used_as, used_by_id, with_count, with_default, with_values, without, word_met, Shape, check_fault, default_fault, flag_word_fault, long_fault, option_fault, react_fault, settle_fault, short_fault, step_fault, turn_fault, use_fault, values_fault, word_fault}
 use Rattle.std.proofs.Math.Dec.{eqb-suc-zero}
-use Rattle.std.proofs.lemmas.Slice.Eq.{bytes_eq-Decides}
-use Rattle.clap.specs.Kinds.{Kinds, or_else, value_kinds}
 use Rattle.clap.specs.Takes.{is_given, value_passes}
-use Rattle.clap.specs.ValueTests.{accepts}
 use Rattle.clap.specs.Values.{read_as}
 use Rattle.clap.specs.declared.error.kind.ErrorKind.TheVariants as kind
 use Rattle.clap.specs.declared.builder.action.ArgAction.{ArgAction}
 use Rattle.clap.specs.declared.builder.action.ArgAction.TheVariants.{Set}
-use Rattle.clap.specs.declared.builder.value_parser.ValueParser.{ValueParser}
 use Rattle.clap.specs.declared.builder.value_parser.Reading.{Reading}
 use Rattle.clap.specs.declared.parser.matches.ValueSource.{ValueSource}
-use Rattle.clap.specs.Walk.{Held, Names, Outcome, Row, Rule, Step, Text, Waiting, Walk, action_of, after_flag, after_step, arg_by_id, at_row, attached_value, bundle_met, counted, flag_met, has_row, long_met, long_or_other, option_met, plain_word, one_of, reacted, reading_by, row_text, rows_after, settled, settled_rows, short_met, takes_values, used, used_as, used_by_id, walked, with_count, with_default, with_values, without, word_met}
-use Rattle.clap.specs.Simple.{Shape}
-use Rattle.clap.specs.Faults.{check_fault, default_fault, defaults_fault, flag_word_fault, flags_fault, long_fault, option_fault, react_fault, settle_fault, short_fault, step_fault, turn_fault, use_fault, values_fault, walk_fault, word_fault}
+use Rattle.clap.specs.Walk.{Text, bundle_met, walked}
+use Rattle.clap.specs.Faults.{defaults_fault, flags_fault, walk_fault}
 use Rattle.sand_cli.proofs.Alone.{IsAlone}
 use Rattle.sand_cli.proofs.Each.{Each, each_append, each_found}
 use Rattle.sand_cli.proofs.Entering.{Accepts, first_passes, second_passes, steps_pass}

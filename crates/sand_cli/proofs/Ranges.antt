@@ -1,18 +1,13 @@
 -- If a level accepts its words, each number that its options have is in its range.
-use Rattle.std.proofs.Common.{◌≡◌, ◌∙◌, ◌≤◌, ℕ, Bool, true, false, not, cond, List, [], ◌∷◌, Option, Some, refl, sym, ap}
-use Rattle.std.specs.Prelude.{⊤, option_and_then}
+use Rattle.sand_cli.proofs.Common.{◌≡◌, ◌∙◌, ◌≤◌, ℕ, Bool, true, false, not, cond, List, [], ◌∷◌, Option, Some, refl, sym, ap, option_and_then, Text, Shape, accepts, is_unsigned_in, action_of, has_row, one_of, rows_after, ValueParser, number_of, value_of}
+use Rattle.std.specs.Prelude.{⊤}
 use Rattle.std.specs.List.{list_any}
-use Rattle.clap.specs.Words.{Row, Rule, Text}
+use Rattle.clap.specs.Words.{Row, Rule}
 use Rattle.clap.specs.Facts.{parser_of_value}
-use Rattle.clap.specs.Simple.{Shape}
-use Rattle.clap.specs.ValueTests.{accepts, is_unsigned_in}
 use Rattle.clap.specs.Values.{read_as, reading_of}
-use Rattle.clap.specs.Walk.{action_of, has_row, one_of, rows_after}
 use Rattle.clap.specs.declared.builder.action.ArgAction.TheVariants.{Set}
-use Rattle.clap.specs.declared.builder.value_parser.ValueParser.{ValueParser}
 use Rattle.clap.specs.declared.builder.value_parser.ValueParser.TheVariants.{Unsigned}
 use Rattle.clap.specs.declared.error.kind.ErrorKind.TheVariants.{MissingRequiredArgument}
-use Rattle.sand_cli.specs.Options.{number_of, value_of}
 use Rattle.sand_cli.proofs.Alone.{IsAlone, are_apart, each_alone}
 use Rattle.sand_cli.proofs.Each.{Each, each_both, each_weaker}
 use Rattle.sand_cli.proofs.Entering.{Accepts}
@@ -30,9 +25,11 @@ TakesNumber bound a = if_ranged a.parser (λ least most. (action_of a ≡ Set)
     × (a.range ≡ Some (record { start_inclusive = 1; end_inclusive = 1 })) × (most ≤ bound))
 
 -- the text is a number from `least` to `most`
-abbrev pub IsNumber : ℕ → ℕ → ℕ → Option Text → Type 0
-IsNumber bound least most text =
-    (n : ℕ) × (option_and_then (number_of bound) text ≡ Some n) × (least ≤ n) × (n ≤ most)
+pub record IsNumber (bound least most : ℕ) (text : Option Text) : Type 0 where
+  pub number : ℕ
+  pub read : option_and_then (number_of bound) text ≡ Some number
+  pub low : least ≤ number
+  pub high : number ≤ most
 
 -- if the option takes a number and has a row, it has a number in its range
 abbrev HasNumber : ℕ → List Row → Rule → Type 0
@@ -55,7 +52,12 @@ has_number bound s words a alone takes passes = go a.parser refl takes
         ap (λ q. accepts a.ignore_case (parser_of_value q) text.0) (sym is) ∙ text.2 in
         let number = passed_number least most bound text.0 small passed in
         let read = text.1 ∙ ap (λ q. Some (read_as (reading_of (parser_of_value q)) text.0)) is in
-        (value_of text.0, ap (option_and_then (number_of bound)) read ∙ number.0, number.1, number.2)
+        record {
+          number = value_of text.0;
+          read = ap (option_and_then (number_of bound)) read ∙ number.0;
+          low = number.1;
+          high = number.2;
+        }
     go _ is takes = tt
 
 pub each_number : (bound : ℕ) (s : Shape) (words : List Text) → are_apart s.rules ≡ true

@@ -1,16 +1,7 @@
 -- What clap's getters return, in terms of the options.
-use Rattle.std.proofs.lemmas.Grind.{common_steps}
-use Rattle.std.proofs.Common.{◌≡◌, ◌≢◌, ◌∙◌, ℕ, Bool, true, false, cond, Option, Some, None, Result, Ok, Err, codes, refl, sym, ap, arith, ◌+◌, ◌^◌, ◌<◌, ◌≤◌}
-use Rattle.std.specs.Prelude.{option_and_then, unwrap_or}
-use Rattle.std.specs.Option.{option_map_or}
-use Rattle.std.specs.Str.{bytes_eq}
-use Rattle.std.specs.Str.Parse.{ParsesBool, ParsesUnsigned, true_text}
-use Rattle.std.proofs.lemmas.Slice.Eq.{bytes_eq-Decides}
-use Rattle.clap.specs.Words.{ReadsOne, Text}
-use Rattle.clap.specs.ValueTests.{is_unsigned_in}
+use Rattle.sand_cli.proofs.Common.{common_steps, ◌≡◌, ◌≢◌, ◌∙◌, ℕ, Bool, true, false, cond, Option, Some, None, Result, Ok, Err, codes, refl, sym, ap, arith, ◌+◌, ◌^◌, ◌<◌, ◌≤◌, option_and_then, unwrap_or, option_map_or, bytes_eq, ParsesBool, ParsesUnsigned, true_text, bytes_eq-Decides, ReadsOne, Text, is_unsigned_in, number_of, value_of}
 use Rattle.clap.specs.declared.builder.value_parser.ValueParser.TheVariants as parser
 use Rattle.clap.proofs.ValueTestLemmas.{Accepts-accepts, accepts-Accepts}
-use Rattle.sand_cli.specs.Options.{number_of, value_of}
 
 -- a flag's value as a `bool`; false if it has none
 pub flag_is : (E : Type 0) (text : Option Text) (r : Option Bool)

@@ -1,24 +1,13 @@
 -- The words that spell a task ask for it.
-use Rattle.std.proofs.lemmas.Grind.{common_steps}
-use Rattle.std.proofs.Common.{arith, Err, Ok, is_some, ◌≡◌, ◌∙◌, Bool, true, false, List, [], ◌∷◌, Some, None, drop, fold, refl, ap, ap₂}
-use Rattle.std.specs.Prelude.{find, option_map}
-use Rattle.std.specs.Option.{option_map_or}
-use Rattle.clap.specs.Faults.{check_fault, defaults_fault, entered_fault, level_fault, settle_fault, turn_fault, walk_fault}
-use Rattle.clap.specs.Kinds.{Kinds, or_else}
-use Rattle.clap.specs.Simple.{App, Shape, built, entered, label_of, names_of, rows_at, subcommand_of}
-use Rattle.clap.specs.Walk.{Walk, answers_to, finished, nothing_held, settled, walked}
-use Rattle.clap.specs.Words.{Text}
+use Rattle.sand_cli.proofs.Common.{common_steps, arith, Err, Ok, is_some, ◌≡◌, ◌∙◌, Bool, true, false, List, [], ◌∷◌, Some, None, drop, fold, refl, ap, ap₂, find, option_map, option_map_or, check_fault, defaults_fault, entered_fault, level_fault, settle_fault, turn_fault, Kinds, or_else, App, Shape, built, entered, label_of, names_of, rows_at, subcommand_of, Walk, answers_to, finished, nothing_held, settled, walked, Text, IsWithin, asked, faults, Heeds, words_of, Task, Add, Burn, Drops, Identity, Inverse, Lab, Multiple, Recurrent, Settle}
+use Rattle.clap.specs.Faults.{walk_fault}
 use Rattle.clap.proofs.OnLiterals.{clap_on_literals}
-use Rattle.sand_cli.specs.Asked.{IsWithin, asked, faults}
 use Rattle.sand_cli.specs.Fault.{IsUsage}
 use Rattle.sand_cli.specs.Line.{command_line}
-use Rattle.sand_cli.specs.Spelling.{Heeds, words_of}
 use Rattle.sand_cli.specs.declared.fault.WordsFault.{WordsFault}
 use Rattle.sand_cli.specs.declared.task.Form.TheVariants.{Graymap, Pile}
 use Rattle.sand_cli.specs.declared.task.Form.TheVariants as forms
 use Rattle.sand_cli.specs.declared.task.Part.TheVariants as parts
-use Rattle.sand_cli.specs.declared.task.Task.{Task}
-use Rattle.sand_cli.specs.declared.task.Task.TheVariants.{Add, Burn, Drops, Identity, Inverse, Lab, Multiple, Recurrent, Settle}
 use Rattle.sand_cli.proofs.Entering.{Accepts}
 use Rattle.sand_cli.proofs.Levels.{drops_asks, identity_asks, lab_asks, multiple_asks}
 use Rattle.sand_cli.proofs.Stopped.{passes_stopped, stays, stopped_at}

@@ -1,8 +1,7 @@
 -- A walk that meets a command passes it all the words after its name.
-use Rattle.std.proofs.Common.{◌≡◌, ◌∙◌, List, [], ◌∷◌, ◌++◌, Some, refl, sym, ap, fold, append_assoc}
+use Rattle.sand_cli.proofs.Common.{◌≡◌, ◌∙◌, List, [], ◌∷◌, ◌++◌, Some, refl, sym, ap, fold, append_assoc, Names, Rule, Walk, Shape}
 use Rattle.std.proofs.lemmas.List.{append-nil}
-use Rattle.clap.specs.Walk.{Names, Rule, Text, Walk, walked}
-use Rattle.clap.specs.Simple.{Shape}
+use Rattle.clap.specs.Walk.{Text, walked}
 use Rattle.clap.specs.Faults.{walk_fault}
 
 -- the walk, stopped at this command with these words after its name

@@ -1,19 +1,12 @@
 -- The result of a parse, in terms of what clap guarantees.
-use Rattle.std.proofs.lemmas.Grind.{common_steps}
-use Rattle.std.proofs.Common.{arith, ◌≡◌, ◌↔◌, ◌∙◌, true, List, [], ◌∷◌, Option, Some, None, refl, sym, ap, ap₂, subst}
-use Rattle.std.specs.Prelude.{IfSome, option_and_then, option_map}
-use Rattle.clap.specs.Words.{App, HasKind, HasMatchesOf, IsAmong, Kinds, Text, fault_of, is_simple, is_simple_and_free, kind_of, subcommand_of, subcommand_rows_of, built}
-use Rattle.clap.specs.Simple.{argument_words, entered, label_of, rows_at}
-use Rattle.clap.specs.Walk.{answers_to}
+use Rattle.sand_cli.proofs.Common.{common_steps, arith, ◌≡◌, ◌↔◌, ◌∙◌, true, List, [], ◌∷◌, Option, Some, None, refl, sym, ap, ap₂, subst, IfSome, option_and_then, option_map, HasKind, HasMatchesOf, Text, fault_of, is_simple, is_simple_and_free, kind_of, subcommand_rows_of, argument_words, entered, label_of, rows_at, answers_to, AskForHelp, IsWithin, asked, conflict_among, conflict_of, faults, freely, task_named, unless, Conflict, Task}
+use Rattle.clap.specs.Words.{App, IsAmong, Kinds, subcommand_of, built}
 use Rattle.clap.specs.declared.error.Error.{Error}
 use Rattle.clap.specs.declared.parser.matches.ArgMatches.{ArgMatches}
 use Rattle.sand_cli.specs.Line.{command_line}
-use Rattle.sand_cli.specs.Asked.{AskForHelp, IsWithin, asked, conflict_among, conflict_of, faults, freely, task_named, unless}
 use Rattle.sand_cli.specs.Fault.{IsFaultOf, IsOfKinds, IsUsage, ShowsHelp, TellsConflict}
-use Rattle.sand_cli.specs.declared.fault.Conflict.{Conflict}
 use Rattle.sand_cli.specs.declared.fault.WordsFault.{WordsFault}
 use Rattle.sand_cli.specs.declared.fault.WordsFault.TheVariants.{Clash, Memory, Usage}
-use Rattle.sand_cli.specs.declared.task.Task.{Task}
 use Rattle.sand_cli.proofs.Each.{Each, each_found, ◌&◌}
 use Rattle.sand_cli.proofs.Entering.{Enters, enters}
 use Rattle.sand_cli.proofs.HelpAlone.{help_alone}

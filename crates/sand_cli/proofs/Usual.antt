@@ -1,10 +1,6 @@
 -- Each argument with a default has a row at the end of a level.
-use Rattle.std.proofs.lemmas.Grind.{common_steps}
-use Rattle.std.proofs.Common.{arith}
-use Rattle.std.proofs.Common.{◌≡◌, true, false, List, [], ◌∷◌, fold, refl, sym, true≢false}
-use Rattle.std.specs.Str.{bytes_eq}
-use Rattle.std.proofs.lemmas.Slice.Eq.{bytes_eq-Decides}
-use Rattle.clap.specs.Walk.{Row, Rule, Text, at_row, has_row, is_empty, more_values, with_default}
+use Rattle.sand_cli.proofs.Common.{common_steps, arith, ◌≡◌, true, false, List, [], ◌∷◌, fold, refl, sym, true≢false, bytes_eq, bytes_eq-Decides, Row, Rule, at_row, has_row, is_empty, more_values, with_default}
+use Rattle.clap.specs.Walk.{Text}
 use Rattle.clap.specs.declared.parser.matches.ValueSource.{ValueSource}
 use Rattle.sand_cli.proofs.Each.{Each}
 

@@ -1,20 +1,11 @@
 -- Walks over words that a level of a parse reads without a fault.
-use Rattle.std.proofs.lemmas.Grind.{common_steps}
-use Rattle.std.proofs.Common.{arith, ◌≡◌, ◌∙◌, false, cond, List, [], ◌∷◌, ◌++◌, Some, None, sym, ap, ap₂, drop, fold, append_assoc, codes}
+use Rattle.sand_cli.proofs.Common.{common_steps, arith, ◌≡◌, ◌∙◌, false, cond, List, [], ◌∷◌, ◌++◌, Some, None, sym, ap, ap₂, drop, fold, append_assoc, codes, option_map_or, bytes_eq, bundle_fault, check_fault, defaults_fault, flag_word_fault, level_fault, settle_fault, step_fault, turn_fault, Kinds, or_else, Shape, rows_at, Held, Row, Rule, Step, Walk, after_step, finished, idle, next, nothing_held, option, plain_word, rows_after, settled, walk_from, word_met, Text, conflict_of, task_named, words_of, Task}
 use Rattle.std.proofs.lemmas.List.{append-nil}
-use Rattle.std.specs.Option.{option_map_or}
-use Rattle.std.specs.Str.{bytes_eq}
 use Rattle.clap.specs.Lexer.{long_of}
-use Rattle.clap.specs.Faults.{bundle_fault, check_fault, defaults_fault, flag_word_fault, level_fault, settle_fault, step_fault, turn_fault, walk_fault}
-use Rattle.clap.specs.Kinds.{Kinds, or_else}
-use Rattle.clap.specs.Simple.{Shape, rows_at}
-use Rattle.clap.specs.Walk.{Held, Row, Rule, Step, Walk, after_step, finished, idle, next, nothing_held, option, plain_word, rows_after, settled, walk_from, walked, word_met}
-use Rattle.clap.specs.Words.{Text}
+use Rattle.clap.specs.Faults.{walk_fault}
+use Rattle.clap.specs.Walk.{walked}
 use Rattle.clap.specs.declared.builder.value_parser.Reading.TheVariants.{AsWritten}
 use Rattle.clap.specs.declared.parser.matches.ValueSource.TheVariants.{CommandLine}
-use Rattle.sand_cli.specs.Asked.{conflict_of, task_named}
-use Rattle.sand_cli.specs.Spelling.{words_of}
-use Rattle.sand_cli.specs.declared.task.Task.{Task}
 use Rattle.sand_cli.proofs.Entering.{Accepts}
 use Rattle.sand_cli.proofs.NumberTexts.{IsNoOption}
 

@@ -1,19 +1,10 @@
 -- If a command accepts its words and no options conflict, it asks for a task within the limits.
-use Rattle.std.proofs.lemmas.Grind.{common_steps}
-use Rattle.std.proofs.Common.{◌≡◌, ◌≤◌, ℕ, Bool, true, false, cond, ◌&&◌, List, [], ◌∷◌, Option, Some, None, refl, ap, ap₂, arith, rules, codes}
-use Rattle.std.specs.Prelude.{IfSome, option_map, unwrap_or}
-use Rattle.clap.specs.Words.{Row, Text}
-use Rattle.clap.specs.Simple.{Shape, built_leaf, rows_at}
+use Rattle.sand_cli.proofs.Common.{common_steps, ◌≡◌, ◌≤◌, ℕ, Bool, true, false, cond, ◌&&◌, List, [], ◌∷◌, Option, Some, None, refl, ap, ap₂, arith, rules, codes, IfSome, option_map, unwrap_or, Text, Shape, built_leaf, rows_at, has_row, nothing_held, one_of, rows_after, settled, walk, GoTogether, IsDraw, IsWithin, conflict_of, draw_by, form_in, task_named, with_settings, with_sides, flag_in, setting_in, PileAndJournal, PileAndGraymap, PileAndTable, Task, Lab, Multiple}
+use Rattle.clap.specs.Words.{Row}
 use Rattle.clap.specs.Takes.{is_given}
-use Rattle.clap.specs.Walk.{has_row, nothing_held, one_of, rows_after, settled, walk}
-use Rattle.sand_cli.specs.Asked.{GoTogether, IsDraw, IsWithin, conflict_of, draw_by, form_in, task_named, with_settings, with_sides}
 use Rattle.sand_cli.specs.Line.{drops_line, identity_line, lab_line, multiple_line}
-use Rattle.sand_cli.specs.Options.{flag_in, setting_in}
-use Rattle.sand_cli.specs.declared.fault.Conflict.TheVariants.{PileAndJournal, PileAndGraymap, PileAndTable}
 use Rattle.sand_cli.specs.declared.task.Form.TheVariants.{Graymap, Pile}
 use Rattle.sand_cli.specs.declared.task.Form.TheVariants as forms
-use Rattle.sand_cli.specs.declared.task.Task.{Task}
-use Rattle.sand_cli.specs.declared.task.Task.TheVariants.{Lab, Multiple}
 use Rattle.sand_cli.proofs.Each.{Each}
 use Rattle.sand_cli.proofs.Entering.{Accepts}
 use Rattle.sand_cli.proofs.Passing.{given_has_row, level_checks}
@@ -44,7 +35,7 @@ identity_within words passes free =
     let number = each_number 18446744073709551615 identity_built words refl identity_takes passes in
     let width = number.0 (given_has_row (codes "width") rows given.0) in
     let height = number.1.0 (given_has_row (codes "height") rows given.1.0) in
-    (_, ap₂ (with_sides rows) width.1 height.1, (width.2, width.3, height.2, height.3))
+    (_, ap₂ (with_sides rows) width.read height.read, (width.low, width.high, height.low, height.high))
 
 -- ---- `multiple`
 
@@ -60,7 +51,7 @@ multiple_within words passes free =
     let given = all_given (is_given (codes "times") rows ∷ []) (level_checks multiple_built words passes) in
     let number = each_number 18446744073709551615 multiple_built words refl multiple_takes passes in
     let times = number.0 (given_has_row (codes "times") rows given.0) in
-    (_, ap (option_map (λ n. Multiple n (flag_in (codes "pgm") rows))) times.1, times.3)
+    (_, ap (option_map (λ n. Multiple n (flag_in (codes "pgm") rows))) times.read, times.high)
 
 -- ---- `drops`
 
@@ -132,21 +123,21 @@ lab_within words passes free =
     let observers = number.1.1.1.1.1.1.0 (has.1.1.1.1.1.1.0 refl) in (
       _,
       (λ i. option_map (λ r. Lab r (flag_in (codes "journal") rows) (form_in rows))
-          (with_settings (seed.1 i) (droppers.1 i) (drops.1 i)
-          (epochs.1 i) (workers.1 i) (sweeps.1 i) (observers.1 i))),
+          (with_settings (seed.read i) (droppers.read i) (drops.read i)
+          (epochs.read i) (workers.read i) (sweeps.read i) (observers.read i))),
       (
         record {
-          seed = seed.3;
+          seed = seed.high;
           plan = record {
-            some_droppers = droppers.2;
-            droppers = droppers.3;
-            drops = drops.3;
-            some_epochs = epochs.2;
-            epochs = epochs.3;
-            some_workers = workers.2;
-            workers = workers.3;
-            sweeps = sweeps.3;
-            observers = observers.3;
+            some_droppers = droppers.low;
+            droppers = droppers.high;
+            drops = drops.high;
+            some_epochs = epochs.low;
+            epochs = epochs.high;
+            some_workers = workers.low;
+            workers = workers.high;
+            sweeps = sweeps.high;
+            observers = observers.high;
           };
         },
         go_together (flag_in (codes "pile") rows) (flag_in (codes "pgm") rows)

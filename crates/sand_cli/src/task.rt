@@ -14,7 +14,7 @@ use sand_plan::Wish;
 use std::alloc::Global;
 
 /// Drops at the sites of a random stream.
-#[derive(Clone, Copy, Debug, PartialEq, Eq)]
+#[derive(Clone, Copy)]
 pub struct Draw {
     /// The number of drops, at most 4,294,967,295.
     pub count: u32,
@@ -27,7 +27,7 @@ pub struct Draw {
 }
 
 /// The part of the output of `drops` that is written.
-#[derive(Clone, Copy, Debug, PartialEq, Eq)]
+#[derive(Clone, Copy)]
 pub enum Part {
     /// The table of the drops, the pile and the sums.
     All,
@@ -38,7 +38,7 @@ pub enum Part {
 }
 
 /// The form in which a pile is written.
-#[derive(Clone, Copy, Debug, PartialEq, Eq)]
+#[derive(Clone, Copy)]
 pub enum Form {
     /// As text, with the other results of the command.
     Text,
@@ -49,7 +49,7 @@ pub enum Form {
 }
 
 /// What to do. `pgm` asks for a picture instead of text.
-#[derive(Clone, Copy, Debug, PartialEq, Eq)]
+#[derive(Clone, Copy)]
 pub enum Task {
     /// Settles a pile.
     Settle {

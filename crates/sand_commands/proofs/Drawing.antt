@@ -1,18 +1,8 @@
 -- The faults of `drops --count`: the pile cannot be read, or there is no room for all drops.
-use Rattle.std.proofs.Common.{◌≡◌, ◌+◌, ◌<◌, ℕ, List, refl, sym, ap, subst, arith, length, sum}
-use Rattle.std.specs.Prelude.{Some, Ok, Err}
-use Rattle.sand_model.specs.Grid.{sites}
-use Rattle.sand_model.specs.Piles.{PileView, most_grains}
-use Rattle.sand_text.specs.declared.fault.TextFault.{TextFault}
+use Rattle.sand_commands.proofs.Common.{◌≡◌, ◌+◌, ◌<◌, ℕ, List, refl, sym, ap, subst, arith, length, sum, Some, Ok, Err, sites, PileView, most_grains, TextFault, pile_of, ◌>>=◌, Draw, DeskFault, Finds, IsDropsFault, IsOverfull, drawn_sites, with_draw, of_text}
 use Rattle.sand_text.specs.declared.fault.TextFault.TheVariants as text
-use Rattle.sand_text.specs.Reading.{pile_of, ◌>>=◌}
-use Rattle.sand_cli.specs.declared.task.Draw.{Draw}
-use Rattle.sand_commands.specs.declared.faults.DeskFault.{DeskFault}
 use Rattle.sand_commands.specs.declared.faults.DeskFault.TheVariants as desk
 use Rattle.sand_commands.specs.Answers.{Fails}
-use Rattle.sand_commands.specs.Commands.{Finds, IsDropsFault}
-use Rattle.sand_commands.specs.DropsCommand.{IsOverfull, drawn_sites, with_draw}
-use Rattle.sand_commands.specs.Faults.{of_text}
 use Rattle.sand_commands.proofs.DrawnSites.{length-drawn}
 
 -- a text without a pile has none to drop on

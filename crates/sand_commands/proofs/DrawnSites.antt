@@ -1,10 +1,6 @@
 -- The sites of a draw, read one by one.
-use Rattle.std.proofs.lemmas.Grind.{common_steps}
-use Rattle.std.proofs.Common.{◌≡◌, ◌∙◌, ◌+◌, ◌<◌, ◌≤◌, ℕ, zero, suc, [], ◌∷◌, ◌++◌, All, length, drop, refl, sym, ap, subst, arith, append_assoc, append-nil}
+use Rattle.sand_commands.proofs.Common.{common_steps, ◌≡◌, ◌∙◌, ◌+◌, ◌<◌, ◌≤◌, ℕ, zero, suc, [], ◌∷◌, ◌++◌, All, length, drop, refl, sym, ap, subst, arith, append_assoc, append-nil, drop-append-le, drop_all, length-drop, All-drop, All-nil, All-push, site_at, stream_sites}
 use Rattle.std.proofs.Math.Nat.{mod-lt}
-use Rattle.std.proofs.lemmas.List.{drop-append-le, drop_all, length-drop}
-use Rattle.std.proofs.lemmas.List.Elements.{All-drop, All-nil, All-push}
-use Rattle.sand_streams.specs.Streams.{site_at, stream_sites}
 use Rattle.sand_streams.proofs.StreamLengths.{length-stream_sites}
 
 module _ (sites seed stream : ℕ) where

@@ -1,40 +1,25 @@
 -- The whole text of drops at random, from its parts: at its end, or if the writer failed.
-use Rattle.std.proofs.Common.{◌≡◌, ◌∙◌, ◌+◌, ◌≤◌, ℕ, List, [], ◌++◌, length, take, refl, sym, ap, subst, arith, append-nil, inl}
-use Rattle.std.specs.Prelude.{Option, Some, Ok}
+use Rattle.sand_commands.proofs.Common.{◌≡◌, ◌∙◌, ◌+◌, ◌≤◌, ℕ, List, [], ◌++◌, length, take, refl, sym, ap, subst, arith, append-nil, inl, Option, Some, Ok, Grid, sites, PileView, Avalanche, DrivenView, IsAfter, grid_of_driven, pile_of, ◌>>=◌, breaks_before, breaks_on, grows_on, StreamFault, Draw, Part, DeskFault, IsDropsFault, IsWritten, WorkEnds, AreRows, IsDropsText, drawn_sites, drops_in, with_draw, of_stream, AreAdded, BreaksInRows, end_in, head_in, rows_in}
 use Rattle.std.specs.Io.KnownBytes.{Appends}
 use Rattle.std.proofs.KnownBytes.{Appends-trans}
-use Rattle.sand_model.specs.Grid.{Grid, sites}
-use Rattle.sand_model.specs.Piles.{PileView}
-use Rattle.sand_settle.specs.Avalanches.{Avalanche}
-use Rattle.sand_settle.specs.Drops.{OneView, IsAfter, grid_of_one_pile}
 use Rattle.sand_text.specs.Blocks.{BreaksIn, GrowsBy, Waiting}
-use Rattle.sand_text.specs.Reading.{pile_of, ◌>>=◌}
-use Rattle.sand_text.proofs.Growing.{breaks_before, breaks_on, grows_on}
-use Rattle.sand_text.specs.declared.fault.StreamFault.{StreamFault}
 use Rattle.sand_text.specs.declared.fault.StreamFault.TheVariants as stream
-use Rattle.sand_cli.specs.declared.task.Draw.{Draw}
-use Rattle.sand_cli.specs.declared.task.Part.{Part}
-use Rattle.sand_commands.specs.declared.faults.DeskFault.{DeskFault}
-use Rattle.sand_commands.specs.Commands.{IsDropsFault, IsWritten, WorkEnds}
-use Rattle.sand_commands.specs.DropsCommand.{AreRows, IsDropsText, drawn_sites, drops_in, with_draw}
-use Rattle.sand_commands.specs.Faults.{of_stream}
-use Rattle.sand_commands.specs.Streaming.{AreAdded, BreaksInRows, end_in, head_in, rows_in}
 use Rattle.sand_commands.proofs.Streaming.{text_in_parts}
 
 -- the drops of a draw, made on the pile in the input
-pub record AreDrawn (draw : Draw) (input : List ℕ) (first : OneView)
-    (rows : List (ℕ × Avalanche)) (last : OneView) : Type 0 where
+pub record AreDrawn (draw : Draw) (input : List ℕ) (first : DrivenView)
+    (rows : List (ℕ × Avalanche)) (last : DrivenView) : Type 0 where
   pub start : PileView
   pub read : pile_of input ≡ Ok start
   pub settled : IsAfter start [] first
-  pub dropped : AreRows draw.from first (drawn_sites (sites (grid_of_one_pile first)) draw) rows last
-  pub end : IsAfter start (drawn_sites (sites (grid_of_one_pile first)) draw) last
+  pub dropped : AreRows draw.from first (drawn_sites (sites (grid_of_driven first)) draw) rows last
+  pub end : IsAfter start (drawn_sites (sites (grid_of_driven first)) draw) last
 
-drawn_text : (draw : Draw) (part : Part) (input : List ℕ) (first last : OneView) (rows : List (ℕ × Avalanche))
+drawn_text : (draw : Draw) (part : Part) (input : List ℕ) (first last : DrivenView) (rows : List (ℕ × Avalanche))
     → AreDrawn draw input first rows last
     → IsDropsText (Some draw) part input (drops_in part rows last.settled)
 drawn_text draw part input first last rows drawn =
-    let grid : grid_of_one_pile first ≡ drawn.start.grid = drawn.settled.settled.grid in
+    let grid : grid_of_driven first ≡ drawn.start.grid = drawn.settled.settled.grid in
     let P : Grid → Type 0 = λ g. AreRows draw.from first (drawn_sites (sites g) draw) rows last in
     let Q : Grid → Type 0 = λ g. IsAfter drawn.start (drawn_sites (sites g) draw) last in
     record {
@@ -55,7 +40,7 @@ abbrev pub head_of : Part → Waiting
 head_of part = record { bytes = head_in part; sent = 0 }
 
 -- the writer failed within the text
-pub drawn_breaks : (draw : Draw) (part : Part) (input : List ℕ) (first last : OneView)
+pub drawn_breaks : (draw : Draw) (part : Part) (input : List ℕ) (first last : DrivenView)
     (rows : List (ℕ × Avalanche)) (held held' : Option (List ℕ)) (b : Waiting) (why : StreamFault)
     → AreDrawn draw input first rows last → b ≡ head_of part
     → BreaksIn held held' b (rows_in part rows ++ end_in part last.settled) why
@@ -77,10 +62,10 @@ drawn_breaks draw part input first last rows held held' b why drawn is broken =
 
 -- the writer failed in the rows
 pub rows_fail : (draw : Draw) (part : Part) (input : List ℕ) (start : PileView)
-    (first : OneView) (held held' : Option (List ℕ)) (b : Waiting) (fault : DeskFault)
+    (first : DrivenView) (held held' : Option (List ℕ)) (b : Waiting) (fault : DeskFault)
     → pile_of input ≡ Ok start → IsAfter start [] first → b ≡ head_of part
     → ((s : PileView) → IsAfter s [] first
-    → BreaksInRows s part draw.from first (drawn_sites (sites (grid_of_one_pile first)) draw) held held' b fault)
+    → BreaksInRows s part draw.from first (drawn_sites (sites (grid_of_driven first)) draw) held held' b fault)
     → WorkEnds (IsDropsText (Some draw) part input) (IsDropsFault (Some draw) input) held held' fault
 rows_fail draw part input start first held held' b fault read settled is breaks =
     let cut = breaks start settled in
@@ -94,14 +79,14 @@ rows_fail draw part input start first held held' b fault read settled is breaks 
 pub record ArePushed (draw : Draw) (part : Part) (input : List ℕ) (held mid : Option (List ℕ)) (c : Waiting)
     : Type 0 where
   pub start : PileView
-  pub first : OneView
-  pub last : OneView
+  pub first : DrivenView
+  pub last : DrivenView
   pub blocks : Waiting
   pub read : pile_of input ≡ Ok start
   pub settled : IsAfter start [] first
   pub head : blocks ≡ head_of part
-  pub added : AreAdded part draw.from first (drawn_sites (sites (grid_of_one_pile first)) draw) last held mid blocks c
-  pub after : (s : PileView) → IsAfter s [] first → IsAfter s (drawn_sites (sites (grid_of_one_pile first)) draw) last
+  pub added : AreAdded part draw.from first (drawn_sites (sites (grid_of_driven first)) draw) last held mid blocks c
+  pub after : (s : PileView) → IsAfter s [] first → IsAfter s (drawn_sites (sites (grid_of_driven first)) draw) last
 
 module _ (draw : Draw) (part : Part) (input : List ℕ) (held mid : Option (List ℕ)) (c : Waiting)
     (p : ArePushed draw part input held mid c) where

@@ -1,14 +1,7 @@
 -- The drop sites in a text are sites of its pile.
-use Rattle.std.proofs.Common.{◌≡◌, ◌+◌, ◌<◌, ◌≤◌, ℕ, true, false, not, leb, List, [], ◌∷◌, refl, ap, subst, All, arith, length, ⊎_elim}
-use Rattle.std.specs.List.{prefix_len}
-use Rattle.std.specs.Prelude.{Option, Some, None, Result, Ok, Err, position}
-use Rattle.std.proofs.lemmas.Bool.{cases_Bool, cases_lt, leb-false, lt-ltb}
-use Rattle.std.proofs.lemmas.List.Elements.{All-cons, All-nil}
-use Rattle.sand_model.specs.Grid.{Grid, sites}
-use Rattle.sand_model.specs.Piles.{PileView}
-use Rattle.sand_text.specs.declared.fault.TextFault.{TextFault}
+use Rattle.sand_commands.proofs.Common.{◌≡◌, ◌+◌, ◌<◌, ◌≤◌, ℕ, true, false, not, leb, List, [], ◌∷◌, refl, ap, subst, All, arith, length, ⊎_elim, prefix_len, Option, Some, None, Result, Ok, Err, position, cases_Bool, cases_lt, leb-false, lt-ltb, All-cons, All-nil, Grid, sites, PileView, TextFault, front_of, sites_among, unless_at, ◌>>=◌}
 use Rattle.sand_text.specs.declared.fault.TextFault.TheVariants.{NoSite}
-use Rattle.sand_text.specs.Reading.{drops_of, front_of, sites_among, unless_at, ◌>>=◌}
+use Rattle.sand_text.specs.Reading.{drops_of}
 
 all_below : (n : ℕ) (ns : List ℕ) → length ns ≤ prefix_len (λ x. not (leb n x)) ns → All (λ j. j < n) ns
 all_below n [] l = All-nil (λ j. j < n)

@@ -1,20 +1,9 @@
 -- On a settled pile grains can drop at any sites, within the grain limit: each settles and causes an avalanche.
-use Rattle.std.proofs.Common.{ℕ, zero, suc, ◌≡◌, ◌+◌, ◌-◌, ◌<◌, ◌≤◌, refl, sym, ap, ◌∙◌, subst, arith, List, [], ◌∷◌, ◌++◌, All, map, length, sum, get_or, append_assoc, append-nil, ⊎_elim}
-use Rattle.std.specs.List.{range_with_len}
-use Rattle.std.proofs.lemmas.Bool.{cases_lt}
-use Rattle.std.proofs.lemmas.List.{get_or_past, length-append}
-use Rattle.std.proofs.lemmas.List.Elements.{All-head, All-tail}
+use Rattle.sand_commands.proofs.Common.{ℕ, zero, suc, ◌≡◌, ◌+◌, ◌-◌, ◌<◌, ◌≤◌, refl, sym, ap, ◌∙◌, subst, arith, List, [], ◌∷◌, ◌++◌, All, map, length, sum, get_or, append_assoc, append-nil, ⊎_elim, range_with_len, cases_lt, get_or_past, length-append, All-head, All-tail, Grid, sites, distance, PileView, most_grains, Avalanche, area_of, IsAvalanche, DrivenView, IsAfter, Drops, TakesGrain, grid_of_driven, topplings_between, SettledView, odometer_of, after_drop, AreRows}
 use Rattle.std.proofs.lemmas.List.FromFn.{length-map-range_with_len, get_or-map-range_with_len}
-use Rattle.sand_model.specs.Grid.{Grid, sites, distance}
-use Rattle.sand_model.specs.Piles.{PileView, most_grains}
 use Rattle.sand_model.specs.Sand.{one_at, topplings, lost, IsSettled}
 use Rattle.sand_model.proofs.EachSettles.{settles}
 use Rattle.sand_model.proofs.Sandpile.{settled_same}
-use Rattle.sand_settle.specs.Avalanches.{Avalanche, area_of, IsAvalanche}
-use Rattle.sand_settle.specs.Drops.{OneView, IsAfter, Drops, TakesGrain, grid_of_one_pile, topplings_between}
-use Rattle.sand_settle.specs.Settling.{SettledView, odometer_of}
-use Rattle.sand_settle.proofs.Drops.{after_drop}
-use Rattle.sand_commands.specs.DropsCommand.{AreRows}
 
 -- a number for each site
 by_site : Grid → (ℕ → ℕ) → List ℕ
@@ -123,15 +112,15 @@ avalanche_of g site v =
       },
     )
 
-drop_exists : (v : OneView) (site : ℕ)
-    → length v.settled.odometer ≡ sites (grid_of_one_pile v)
-    → site < sites (grid_of_one_pile v) → v.grains < most_grains
-    → (w : OneView) × (a : Avalanche) × Drops v site w
-    × IsAvalanche (grid_of_one_pile v) site (topplings_between v.settled w.settled) a
+drop_exists : (v : DrivenView) (site : ℕ)
+    → length v.settled.odometer ≡ sites (grid_of_driven v)
+    → site < sites (grid_of_driven v) → v.grains < most_grains
+    → (w : DrivenView) × (a : Avalanche) × Drops v site w
+    × IsAvalanche (grid_of_driven v) site (topplings_between v.settled w.settled) a
 drop_exists v site each inside room =
     let r : SettledView = v.settled in
     let done = settles r.pile.grid (λ j. get_or r.pile.heights j 0 + one_at site j) in
-    let w : OneView = record { settled = poured r done.0 done.1; number = v.number + 1; grains = v.grains + 1 } in
+    let w : DrivenView = record { settled = poured r done.0 done.1; number = v.number + 1; grains = v.grains + 1 } in
     let avalanche = avalanche_of r.pile.grid site (topplings_between r w.settled) in (
       w,
       avalanche.0,
@@ -146,14 +135,14 @@ drop_exists v site each inside room =
     )
 
 -- what some drops, and more after them, lead to
-pub record Continues (start : PileView) (past : List ℕ) (n : ℕ) (v : OneView) (more : List ℕ) : Type 0 where
+pub record Continues (start : PileView) (past : List ℕ) (n : ℕ) (v : DrivenView) (more : List ℕ) : Type 0 where
   pub rows : List (ℕ × Avalanche)
-  pub last : OneView
+  pub last : DrivenView
   pub dropped : AreRows n v more rows last
   pub end : IsAfter start (past ++ more) last
 
 -- for any stable pile and any list of sites within the grain limit, the drops and avalanches exist
-pub drops_exist : (start : PileView) (past more : List ℕ) (n : ℕ) (v : OneView)
+pub drops_exist : (start : PileView) (past more : List ℕ) (n : ℕ) (v : DrivenView)
     → IsAfter start past v → All (λ j. j < sites start.grid) more
     → sum start.heights + (length past + length more) ≤ most_grains → Continues start past n v more
 drops_exist start past [] n v after inside few =

@@ -9,3 +9,4 @@ pub mod Unfit
 pub mod Endings
 pub mod OneNumber
 pub mod RunsInParts
+pub mod Common

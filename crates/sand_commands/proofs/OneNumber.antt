@@ -1,19 +1,15 @@
 -- A fault keeps its number when it becomes the program's.
-use Rattle.std.proofs.lemmas.Grind.{common_steps}
-use Rattle.std.proofs.Common.{arith, ◌≡◌}
+use Rattle.sand_commands.proofs.Common.{common_steps, arith, ◌≡◌, TextFault, StreamFault, number_of, of_shape, of_one, of_group, of_text, of_read, of_stream, of_words, KeepNumbers}
 use Rattle.sand_model.specs.declared.faults.ShapeFault.{ShapeFault}
 use Rattle.sand_model.specs.Faults.{shape_fault_number}
 use Rattle.sand_settle.specs.declared.faults.OneFault.{OneFault}
 use Rattle.sand_settle.specs.Faults.{one_fault_number}
 use Rattle.sand_group.specs.declared.faults.GroupFault.{GroupFault}
 use Rattle.sand_group.specs.Faults.{group_fault_number}
-use Rattle.sand_text.specs.declared.fault.TextFault.{TextFault}
 use Rattle.sand_text.specs.declared.fault.ReadFault.{ReadFault}
-use Rattle.sand_text.specs.declared.fault.StreamFault.{StreamFault}
 use Rattle.sand_text.specs.Faults.{text_fault_number, read_fault_number, stream_fault_number}
 use Rattle.sand_cli.specs.declared.fault.WordsFault.{WordsFault}
 use Rattle.sand_cli.specs.Fault.{words_fault_number}
-use Rattle.sand_commands.specs.Faults.{number_of, of_shape, of_one, of_group, of_text, of_read, of_stream, of_words, KeepNumbers}
 
 of_a_shape : (fault : ShapeFault) → number_of (of_shape fault) ≡ shape_fault_number fault
 of_a_shape fault = grind (arith, common_steps)

@@ -1,19 +1,14 @@
 -- The rows of drops, followed by more drops.
-use Rattle.std.proofs.Common.{◌≡◌, ◌∙◌, ◌+◌, ℕ, Bool, true, false, if◌then◌else◌, List, [], ◌∷◌, ◌++◌, length, refl, sym, ap, subst, arith}
-use Rattle.sand_settle.specs.Avalanches.{Avalanche, IsAvalanche}
-use Rattle.sand_settle.specs.Settling.{SettledView}
-use Rattle.sand_settle.specs.Drops.{OneView, grid_of_one_pile, topplings_between, Drops}
-use Rattle.sand_cli.specs.declared.task.Part.{Part}
+use Rattle.sand_commands.proofs.Common.{◌≡◌, ◌∙◌, ◌+◌, ℕ, Bool, true, false, if◌then◌else◌, List, [], ◌∷◌, ◌++◌, length, refl, sym, ap, subst, arith, Avalanche, IsAvalanche, SettledView, DrivenView, grid_of_driven, topplings_between, Drops, Part, AreNoted, AreRows, drops_in, is_pile}
 use Rattle.sand_cli.specs.declared.task.Part.TheVariants as parts
-use Rattle.sand_commands.specs.DropsCommand.{AreNoted, AreRows, drops_in, is_pile}
 
 -- the rows of some drops, then those of the drops after them
-pub rows_join : (n m : ℕ) (v u w : OneView) (sites later : List ℕ) (rows more : List (ℕ × Avalanche))
+pub rows_join : (n m : ℕ) (v u w : DrivenView) (sites later : List ℕ) (rows more : List (ℕ × Avalanche))
     → m ≡ n + length sites → AreRows n v sites rows u → AreRows m u later more w
     → AreRows n v (sites ++ later) (rows ++ more) w
 rows_join n m v u w [] later rows more number (none, same) after =
     let here : m ≡ n = omega (arith, number) in
-    let P : OneView → Type 0 = λ x. AreRows n x later (rows ++ more) w in
+    let P : DrivenView → Type 0 = λ x. AreRows n x later (rows ++ more) w in
     let Q : List (ℕ × Avalanche) → Type 0 = λ xs. AreRows n u later (xs ++ more) w in
     let R : ℕ → Type 0 = λ k. AreRows k u later more w in
     subst P (sym same) (subst Q (sym none) (subst R here after))
@@ -27,26 +22,26 @@ rows_join n m v u w (site ∷ sites) later rows more number (next, a, others, fi
   rows_join (n + 1) m next u w sites later others more (omega (arith, number)) rest after,
 )
 
-pub rows_first : (n : ℕ) (v u w : OneView) (site : ℕ) (sites : List ℕ) (a : Avalanche) (rows : List (ℕ × Avalanche))
+pub rows_first : (n : ℕ) (v u w : DrivenView) (site : ℕ) (sites : List ℕ) (a : Avalanche) (rows : List (ℕ × Avalanche))
     → Drops v site u
-    → IsAvalanche (grid_of_one_pile v) site (topplings_between v.settled u.settled) a → AreRows (n + 1) u sites rows w
+    → IsAvalanche (grid_of_driven v) site (topplings_between v.settled u.settled) a → AreRows (n + 1) u sites rows w
     → AreRows n v (site ∷ sites) ((n, a) ∷ rows) w
 rows_first n v u w site sites a rows drop is rest = (u, a, rows, drop, is, refl, rest)
 
-pub rows_push : (n m : ℕ) (v u w : OneView) (sites : List ℕ) (rows : List (ℕ × Avalanche)) (site : ℕ) (a : Avalanche)
+pub rows_push : (n m : ℕ) (v u w : DrivenView) (sites : List ℕ) (rows : List (ℕ × Avalanche)) (site : ℕ) (a : Avalanche)
     → m ≡ n + length sites → AreRows n v sites rows u → Drops u site w
-    → IsAvalanche (grid_of_one_pile u) site (topplings_between u.settled w.settled) a
+    → IsAvalanche (grid_of_driven u) site (topplings_between u.settled w.settled) a
     → AreRows n v (sites ++ site ∷ []) (rows ++ (m, a) ∷ []) w
 rows_push n m v u w sites rows site a number are drop is =
     rows_join n m v u w sites (site ∷ []) rows ((m, a) ∷ []) number
     are (rows_first m u w w site [] a [] drop is (refl, refl))
 
 -- the same, also if only the pile is wanted
-pub noted_push : (alone : Bool) (v u w : OneView) (sites : List ℕ)
+pub noted_push : (alone : Bool) (v u w : DrivenView) (sites : List ℕ)
     (noted more : List (ℕ × Avalanche)) (site : ℕ) (a : Avalanche)
     → u.number ≡ v.number + length sites → AreNoted alone v sites noted u
     → Drops u site w
-    → IsAvalanche (grid_of_one_pile u) site (topplings_between u.settled w.settled) a
+    → IsAvalanche (grid_of_driven u) site (topplings_between u.settled w.settled) a
     → more ≡ (if alone then noted else noted ++ (u.number, a) ∷ [])
     → AreNoted alone v (sites ++ site ∷ []) more w
 noted_push true v u w sites noted more site a number (rows, are, none) drop is e =

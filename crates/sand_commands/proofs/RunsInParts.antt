@@ -1,25 +1,10 @@
 -- A drop depends only on its site and the pile before it, so a run that continues from the pile of another is the rest
 -- of a single run.
-use Rattle.std.proofs.lemmas.Grind.{common_steps}
-use Rattle.std.proofs.Common.{◌≡◌, ◌∙◌, ◌+◌, ◌<◌, ◌≤◌, ℕ, List, [], ◌∷◌, ◌++◌, drop, length, refl, sym, ap, ap₂, subst, arith, get_or}
-use Rattle.std.specs.Prelude.{Result, Ok, Err}
-use Rattle.std.proofs.lemmas.Bool.{cases_lt}
-use Rattle.std.proofs.lemmas.List.{ext_get_or}
-use Rattle.sand_model.specs.Grid.{Grid, sites}
-use Rattle.sand_model.specs.Piles.{PileView}
+use Rattle.sand_commands.proofs.Common.{common_steps, ◌≡◌, ◌∙◌, ◌+◌, ◌<◌, ◌≤◌, ℕ, List, [], ◌∷◌, ◌++◌, drop, length, refl, sym, ap, ap₂, subst, arith, get_or, Result, Ok, Err, cases_lt, ext_get_or, Grid, sites, PileView, Avalanche, IsAvalanche, DrivenView, IsAfter, Drops, grid_of_driven, topplings_between, odometer_of, avalanche_same, stream_sites, TextFault, pile_of, ◌>>=◌, Draw, AreRows, drawn_sites, with_draw}
 use Rattle.sand_model.specs.Sand.{one_at, occurrences, IsSettled, IsStable}
 use Rattle.sand_model.proofs.Sandpile.{settled_once, settled_stable}
 use Rattle.sand_model.proofs.Underway.{underway_start, underway_end}
-use Rattle.sand_settle.specs.Avalanches.{Avalanche, IsAvalanche}
-use Rattle.sand_settle.specs.Drops.{OneView, IsAfter, Drops, grid_of_one_pile, topplings_between}
-use Rattle.sand_settle.specs.Settling.{odometer_of}
-use Rattle.sand_settle.proofs.Drops.{avalanche_same}
-use Rattle.sand_streams.specs.Streams.{stream_sites}
-use Rattle.sand_text.specs.declared.fault.TextFault.{TextFault}
-use Rattle.sand_text.specs.Reading.{pile_of, ◌>>=◌}
-use Rattle.sand_cli.specs.declared.task.Draw.{Draw}
 use Rattle.sand_commands.specs.Parts.{IsCutInTwo, RunsInParts}
-use Rattle.sand_commands.specs.DropsCommand.{AreRows, drawn_sites, with_draw}
 use Rattle.sand_commands.proofs.DrawnSites.{drawn_split, length-drawn}
 
 -- ---- one drop
@@ -49,10 +34,10 @@ same_avalanche : (g : Grid) (site : ℕ) (v : ℕ → ℕ) (a b : Avalanche) →
 same_avalanche g site v a b one other = grind (arith, common_steps, no_farther)
 
 -- the pile and the site determine the next pile and the avalanche
-same_drop : (v w v' w' : OneView) (site : ℕ) (a b : Avalanche)
+same_drop : (v w v' w' : DrivenView) (site : ℕ) (a b : Avalanche)
     → v.settled.pile ≡ v'.settled.pile → Drops v site w → Drops v' site w'
-    → IsAvalanche (grid_of_one_pile v) site (topplings_between v.settled w.settled) a
-    → IsAvalanche (grid_of_one_pile v') site (topplings_between v'.settled w'.settled) b
+    → IsAvalanche (grid_of_driven v) site (topplings_between v.settled w.settled) a
+    → IsAvalanche (grid_of_driven v') site (topplings_between v'.settled w'.settled) b
     → (w.settled.pile ≡ w'.settled.pile) × (a ≡ b)
 same_drop v w v' w' site a b same drop drop' is is' =
     let p : PileView = v.settled.pile in
@@ -79,13 +64,13 @@ same_drop v w v' w' site a b same drop drop' is is' =
 
 -- ---- the rows
 
-same_rows : (n : ℕ) (v w v' w' : OneView) (places : List ℕ) (rows rows' : List (ℕ × Avalanche))
+same_rows : (n : ℕ) (v w v' w' : DrivenView) (places : List ℕ) (rows rows' : List (ℕ × Avalanche))
     → v.settled.pile ≡ v'.settled.pile
     → AreRows n v places rows w → AreRows n v' places rows' w'
     → (rows ≡ rows') × (w.settled.pile ≡ w'.settled.pile)
 same_rows n v w v' w' [] rows rows' same (none, end) (none', end') = (
   none ∙ sym none',
-  ap (λ (x : OneView). x.settled.pile) (sym end) ∙ same ∙ ap (λ (x : OneView). x.settled.pile) end',
+  ap (λ (x : DrivenView). x.settled.pile) (sym end) ∙ same ∙ ap (λ (x : DrivenView). x.settled.pile) end',
 )
 same_rows n v w v' w' (site ∷ places) rows rows' same
     (u, a, others, drop, is, e, rest) (u', a', others', drop', is', e', rest') =
@@ -94,15 +79,15 @@ same_rows n v w v' w' (site ∷ places) rows rows' same
     (e ∙ ap₂ (λ (b : Avalanche) (xs : List (ℕ × Avalanche)). (n, b) ∷ xs) first.1 after.0 ∙ sym e', after.1)
 
 -- the rows of the first drops, and those of the rest
-record AreSplit (n : ℕ) (v : OneView) (places later : List ℕ) (rows : List (ℕ × Avalanche)) (w : OneView) : Type 0 where
-  middle : OneView
+record AreSplit (n : ℕ) (v : DrivenView) (places later : List ℕ) (rows : List (ℕ × Avalanche)) (w : DrivenView) : Type 0 where
+  middle : DrivenView
   front : List (ℕ × Avalanche)
   back : List (ℕ × Avalanche)
   begins : AreRows n v places front middle
   ends : AreRows (n + length places) middle later back w
   all : rows ≡ front ++ back
 
-rows_split : (n : ℕ) (v w : OneView) (places later : List ℕ) (rows : List (ℕ × Avalanche))
+rows_split : (n : ℕ) (v w : DrivenView) (places later : List ℕ) (rows : List (ℕ × Avalanche))
     → AreRows n v (places ++ later) rows w → AreSplit n v places later rows w
 rows_split n v w [] later rows are =
     let P : ℕ → Type 0 = λ k. AreRows k v later rows w in
@@ -149,7 +134,7 @@ drawn_on : (draw : Draw) (read : Result PileView TextFault) (pile : PileView) (p
 drawn_on draw read pile places e = grind (arith, common_steps, same_reading)
 
 -- two settled records of one start have the same pile
-same_start : (start other : PileView) (v w : OneView) → start ≡ other → IsAfter start [] v → IsAfter other [] w
+same_start : (start other : PileView) (v w : DrivenView) → start ≡ other → IsAfter start [] v → IsAfter other [] w
     → v.settled.pile ≡ w.settled.pile
 same_start start other v w same one two =
     let P : PileView → Type 0 = λ p. IsAfter p [] w in
@@ -163,7 +148,7 @@ same_start start other v w same one two =
     one.settled.settled two.settled.settled i (omega (arith, l, here))).1)
 
 -- the pile that a run leaves settles to itself
-rests : (start : PileView) (past : List ℕ) (v w : OneView) → IsAfter start past v → IsAfter v.settled.pile [] w
+rests : (start : PileView) (past : List ℕ) (v w : DrivenView) → IsAfter start past v → IsAfter v.settled.pile [] w
     → v.settled.pile ≡ w.settled.pile
 rests start past v w left again =
     let p : PileView = v.settled.pile in

@@ -1,23 +1,9 @@
 -- The text of drops at random, as a row is added or the writer fails in one.
-use Rattle.std.proofs.Common.{◌≡◌, ◌∙◌, ◌+◌, ◌<◌, ◌≤◌, ℕ, suc, List, [], ◌∷◌, ◌++◌, All, codes, length, sum, refl, sym, ap, subst, arith, append_assoc, append-nil}
-use Rattle.std.specs.Prelude.{Option}
-use Rattle.std.proofs.lemmas.List.{length-append}
-use Rattle.sand_model.specs.Grid.{sites}
-use Rattle.sand_model.specs.Piles.{PileView, most_grains}
-use Rattle.sand_settle.specs.Avalanches.{Avalanche, IsAvalanche}
-use Rattle.sand_settle.specs.Settling.{SettledView}
-use Rattle.sand_settle.specs.Drops.{OneView, IsAfter, Drops, grid_of_one_pile, topplings_between}
-use Rattle.sand_settle.proofs.Drops.{after_drop}
+use Rattle.sand_commands.proofs.Common.{◌≡◌, ◌∙◌, ◌+◌, ◌<◌, ◌≤◌, ℕ, suc, List, [], ◌∷◌, ◌++◌, All, codes, length, sum, refl, sym, ap, subst, arith, append_assoc, append-nil, Option, length-append, sites, PileView, most_grains, Avalanche, IsAvalanche, SettledView, DrivenView, IsAfter, Drops, grid_of_driven, topplings_between, after_drop, breaks_within, grows_on, stays, StreamFault, Part, AreRows, drops_in, of_stream, AreAdded, BreaksInRows, end_in, head_in, pile_and_sums, row_in, rows_in}
 use Rattle.sand_text.specs.Blocks.{BreaksIn, GrowsBy, Waiting}
 use Rattle.sand_text.specs.Tables.{entries_text, entry_text, table_head}
 use Rattle.sand_text.specs.Texts.{sum_line, text_of}
-use Rattle.sand_text.proofs.Growing.{breaks_within, grows_on, stays}
-use Rattle.sand_text.specs.declared.fault.StreamFault.{StreamFault}
-use Rattle.sand_cli.specs.declared.task.Part.{Part}
 use Rattle.sand_cli.specs.declared.task.Part.TheVariants as parts
-use Rattle.sand_commands.specs.DropsCommand.{AreRows, drops_in}
-use Rattle.sand_commands.specs.Faults.{of_stream}
-use Rattle.sand_commands.specs.Streaming.{AreAdded, BreaksInRows, end_in, head_in, pile_and_sums, row_in, rows_in}
 use Rattle.sand_commands.proofs.DropsExist.{drops_exist}
 use Rattle.sand_commands.proofs.Rows.{rows_first, rows_join, rows_push}
 
@@ -68,18 +54,18 @@ text_in_parts parts.All rows last =
 
 -- ---- one more row
 
-pub none_added : (part : Part) (n : ℕ) (v : OneView) (sites : List ℕ) (held : Option (List ℕ)) (b : Waiting)
+pub none_added : (part : Part) (n : ℕ) (v : DrivenView) (sites : List ℕ) (held : Option (List ℕ)) (b : Waiting)
     → sites ≡ [] → AreAdded part n v sites v held held b b
 none_added part n v sites held b none =
     let P : List ℕ → Type 0 = λ l. AreRows n v l [] v in
     let Q : List ℕ → Type 0 = λ t. GrowsBy held held b b t in
     record { rows = []; dropped = subst P (sym none) (refl, refl); grown = subst Q (sym (no_rows part)) (stays held b) }
 
-pub row_added : (part : Part) (n m : ℕ) (v w u : OneView) (sites : List ℕ)
+pub row_added : (part : Part) (n m : ℕ) (v w u : DrivenView) (sites : List ℕ)
     (site : ℕ) (a : Avalanche) (held mid held' : Option (List ℕ)) (b c d : Waiting)
     → m ≡ n + length sites
     → AreAdded part n v sites w held mid b c → Drops w site u
-    → IsAvalanche (grid_of_one_pile w) site (topplings_between w.settled u.settled) a
+    → IsAvalanche (grid_of_driven w) site (topplings_between w.settled u.settled) a
     → GrowsBy mid held' c d (row_in part (m, a)) → AreAdded part n v (sites ++ site ∷ []) u held held' b d
 row_added part n m v w u sites site a held mid held' b c d number added drop is more =
     let P : List ℕ → Type 0 = λ t. GrowsBy held held' b d t in
@@ -95,11 +81,11 @@ row_added part n m v w u sites site a held mid held' b c d number added drop is 
     }
 
 -- the writer failed in a row: the drops after it exist, and would have led to the rest
-pub broke_in_row : (start : PileView) (part : Part) (n m : ℕ) (v w u : OneView) (before : List ℕ) (site : ℕ)
+pub broke_in_row : (start : PileView) (part : Part) (n m : ℕ) (v w u : DrivenView) (before : List ℕ) (site : ℕ)
     (later : List ℕ) (a : Avalanche) (held mid held' : Option (List ℕ)) (b c : Waiting) (why : StreamFault)
     → m ≡ n + length before → AreAdded part n v before w held mid b c
     → IsAfter start before w → Drops w site u
-    → IsAvalanche (grid_of_one_pile w) site (topplings_between w.settled u.settled) a
+    → IsAvalanche (grid_of_driven w) site (topplings_between w.settled u.settled) a
     → BreaksIn mid held' c (row_in part (m, a)) why
     → All (λ j. j < sites start.grid) later
     → sum start.heights + (length before + suc (length later)) ≤ most_grains

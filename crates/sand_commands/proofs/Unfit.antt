@@ -1,9 +1,6 @@
 -- Why a sum is refused, given why one of its piles is.
-use Rattle.std.proofs.lemmas.Grind.{common_steps}
-use Rattle.std.proofs.Common.{arith, List, ℕ}
+use Rattle.sand_commands.proofs.Common.{common_steps, arith, List, ℕ, IsSumFault, Finds, of_group}
 use Rattle.sand_group.specs.declared.faults.GroupFault.{GroupFault}
-use Rattle.sand_commands.specs.Commands.{IsSumFault, Finds}
-use Rattle.sand_commands.specs.Faults.{of_group}
 use Rattle.sand_commands.specs.GroupCommands.{IsUnfitPair}
 
 pub pair_refused : (input : List ℕ) (fault : GroupFault)

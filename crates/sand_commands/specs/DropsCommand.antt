@@ -3,7 +3,7 @@ use Rattle.std.specs.Prelude.{ℕ, ◌≡◌, ◌+◌, ◌<◌, Bool, true, fals
 use Rattle.sand_model.specs.Piles.{PileView, most_grains}
 use Rattle.sand_settle.specs.Avalanches.{Avalanche, IsAvalanche}
 use Rattle.sand_settle.specs.Settling.{SettledView}
-use Rattle.sand_settle.specs.Drops.{OneView, grid_of_one_pile, topplings_between, IsAfter, Drops}
+use Rattle.sand_settle.specs.Drops.{DrivenView, grid_of_driven, topplings_between, IsAfter, Drops}
 use Rattle.sand_model.specs.Grid.{sites}
 use Rattle.sand_streams.specs.Streams.{stream_sites}
 use Rattle.sand_text.specs.declared.fault.TextFault.{TextFault}
@@ -32,14 +32,14 @@ first_number None = 0
 first_number (Some draw) = draw.from
 
 -- the drops at these sites lead from v to w, and each row has the number of its drop, counted from n, and its avalanche
-abbrev pub AreRows : ℕ → OneView → List ℕ → List (ℕ × Avalanche) → OneView → Type 0
+abbrev pub AreRows : ℕ → DrivenView → List ℕ → List (ℕ × Avalanche) → DrivenView → Type 0
 AreRows n v [] rows w = (rows ≡ []) × (v ≡ w)
-AreRows n v (site ∷ sites) rows w = (u : OneView) × (avalanche : Avalanche) × (others : List (ℕ × Avalanche))
-    × Drops v site u × IsAvalanche (grid_of_one_pile v) site (topplings_between v.settled u.settled) avalanche
+AreRows n v (site ∷ sites) rows w = (u : DrivenView) × (avalanche : Avalanche) × (others : List (ℕ × Avalanche))
+    × Drops v site u × IsAvalanche (grid_of_driven v) site (topplings_between v.settled u.settled) avalanche
     × (rows ≡ (n, avalanche) ∷ others) × AreRows (n + 1) u sites others w
 
 -- the record of the drops at these sites, which lead from v to w: a row each, or nothing if only the pile is wanted
-abbrev pub AreNoted : Bool → OneView → List ℕ → List (ℕ × Avalanche) → OneView → Type 0
+abbrev pub AreNoted : Bool → DrivenView → List ℕ → List (ℕ × Avalanche) → DrivenView → Type 0
 AreNoted alone v sites noted w = (rows : List (ℕ × Avalanche)) × AreRows v.number v sites rows w
     × (noted ≡ (if alone then [] else rows))
 
@@ -62,8 +62,8 @@ drops_in parts.Pile rows last = text_of last.pile
 pub record IsDropsText (drawn : Option Draw) (part : Part) (input text : List ℕ) : Type 0 where
   pub pile : PileView
   pub sites : List ℕ
-  pub first : OneView
-  pub last : OneView
+  pub first : DrivenView
+  pub last : DrivenView
   pub rows : List (ℕ × Avalanche)
   pub read : drops_for drawn input ≡ Ok (pile, sites)
   pub start : IsAfter pile [] first

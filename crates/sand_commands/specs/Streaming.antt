@@ -3,7 +3,7 @@ use Rattle.std.specs.Prelude.{ℕ, ◌≡◌, List, [], ◌++◌, codes, Option}
 use Rattle.sand_model.specs.Piles.{PileView}
 use Rattle.sand_settle.specs.Avalanches.{Avalanche}
 use Rattle.sand_settle.specs.Settling.{SettledView}
-use Rattle.sand_settle.specs.Drops.{OneView, IsAfter}
+use Rattle.sand_settle.specs.Drops.{DrivenView, IsAfter}
 use Rattle.sand_text.specs.Blocks.{BreaksIn, GrowsBy, Waiting}
 use Rattle.sand_text.specs.Tables.{entries_text, entry_text, table_head}
 use Rattle.sand_text.specs.Texts.{sum_line, text_of}
@@ -36,18 +36,18 @@ end_in parts.Table last = []
 end_in parts.Pile last = text_of last.pile
 
 -- the drops at these sites lead from v to w, and their rows, numbered from n, were appended
-pub record AreAdded (part : Part) (n : ℕ) (v : OneView) (sites : List ℕ) (w : OneView) (held held' : Option (List ℕ))
+pub record AreAdded (part : Part) (n : ℕ) (v : DrivenView) (sites : List ℕ) (w : DrivenView) (held held' : Option (List ℕ))
     (b b' : Waiting) : Type 0 where
   pub rows : List (ℕ × Avalanche)
   pub dropped : AreRows n v sites rows w
   pub grown : GrowsBy held held' b b' (rows_in part rows)
 
 -- the drops at these sites lead from v to some w, and the writer failed within the bytes up to the end of their rows
-pub record BreaksInRows (start : PileView) (part : Part) (n : ℕ) (v : OneView) (sites : List ℕ)
+pub record BreaksInRows (start : PileView) (part : Part) (n : ℕ) (v : DrivenView) (sites : List ℕ)
     (held held' : Option (List ℕ)) (b : Waiting) (fault : DeskFault) : Type 0 where
   pub why : StreamFault
   pub told : fault ≡ of_stream why
-  pub last : OneView
+  pub last : DrivenView
   pub rows : List (ℕ × Avalanche)
   pub dropped : AreRows n v sites rows last
   pub end : IsAfter start sites last

@@ -7,7 +7,7 @@
 ghost use Rattle.std.specs.Prelude.{◌≡◌, ◌+◌, ◌≤◌, [], Some, IfErr, OnOk};
 ghost use Rattle.sand_model.specs.Grid.{sites};
 ghost use Rattle.sand_model.specs.Piles.{PileView, most_grains};
-ghost use Rattle.sand_settle.specs.Drops.{grid_of_one_pile, IsAfter};
+ghost use Rattle.sand_settle.specs.Drops.{grid_of_driven, IsAfter};
 ghost use Rattle.sand_text.specs.Blocks.{BreaksIn, GrowsBy};
 ghost use Rattle.sand_cli.specs.Asked.{IsDraw};
 ghost use Rattle.sand_commands.specs.Commands.{IsDropsFault, IsWritten, WorkEnds};
@@ -66,12 +66,12 @@ fn drop_drawn<G: Gate, W: Write>(
     requires draw { IsDraw draw }
     requires room { pile.old.grains + draw.count ≤ most_grains }
     ensures rows { OnOk result (AreAdded part draw.from pile.old
-        (drawn_sites (sites (grid_of_one_pile pile.old)) draw) pile.new
+        (drawn_sites (sites (grid_of_driven pile.old)) draw) pile.new
         (W.contents writer.old) (W.contents writer.new) blocks.old blocks.new) }
     ensures after { OnOk result ((start : PileView) → IsAfter start [] pile.old
-        → IsAfter start (drawn_sites (sites (grid_of_one_pile pile.old)) draw) pile.new) }
+        → IsAfter start (drawn_sites (sites (grid_of_driven pile.old)) draw) pile.new) }
     ensures fault { IfErr result (λ e. (start : PileView) → IsAfter start [] pile.old
-        → BreaksInRows start part draw.from pile.old (drawn_sites (sites (grid_of_one_pile pile.old)) draw)
+        → BreaksInRows start part draw.from pile.old (drawn_sites (sites (grid_of_driven pile.old)) draw)
         (W.contents writer.old) (W.contents writer.new) blocks.old e) }
 {
     let mut reader = SiteReader::new(pile.shape(), draw.seed, draw.stream);

@@ -1,15 +1,17 @@
 //! The commands of the group of recurrent piles: `burn`, `identity`, `add`, `inverse`, `multiple` and `recurrent`.
 
-ghost use Rattle.std.specs.Prelude.{◌≡◌, IfOk, IfErr, IsOkUnless};
+ghost use Rattle.std.specs.Prelude.{◌≡◌, IfOk, IfErr};
 ghost use Rattle.sand_model.specs.Piles.{height_of};
 ghost use Rattle.sand_model.specs.Sand.{IsStable};
 ghost use Rattle.sand_text.specs.Reading.{pile_of};
+ghost use Rattle.sand_commands.specs.Answers.{IsText};
 ghost use Rattle.sand_commands.specs.Commands.{IsBurnFault, IsShapeless, IsSumFault, IsElementFault, IsUnreadable, Finds};
 ghost use Rattle.sand_commands.specs.GroupCommands.{IsBurnText, IsIdentityText, IsSumText, IsInverseText, IsMultipleText, IsRecurrentText, edge_of};
 ghost use Rattle.sand_commands.specs.SettleCommand.{pile_or_graymap};
 
 use crate::faults::DeskFault;
-use crate::texts::{burn_text, pgm_text, pile_text, read_pile, read_two};
+use crate::results::burn_text;
+use crate::texts::{pgm_text, pile_text, read_pile, read_two};
 use sand_group::{Recurrent, add, burn, equivalent_recurrent, identity, inverse, multiple};
 use sand_model::{Edge, Pile, Shape};
 use std::alloc::Global;
@@ -17,8 +19,7 @@ use std::alloc::Global;
 // A stable pile, as text or as a picture.
 fn pile_or_graymap(alloc: Global, pile: &Pile, pgm: bool) -> Result<Vec<u8>, DeskFault>
     requires { IsStable pile.now.grid (height_of pile.now) }
-    ensures text { IfOk result (λ text. text.items ≡ pile_or_graymap pgm pile.now) }
-    ensures memory { IsOkUnless result DeskFault.Memory }
+    ensures { IsText result (pile_or_graymap pgm pile.now) }
 {
     if pgm {
         pgm_text(alloc, pile)

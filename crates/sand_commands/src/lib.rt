@@ -1,8 +1,8 @@
 //! The program's commands without the laboratory: from a task and its input to the text, or to a fault.
 //!
 //! `tasks` reads the input, does the task and writes its text. `results` has the texts of a settled pile and of the
-//! burning test; `texts` wraps these, and the parsers and writers of `sand_text`. `faults` has the one fault type of
-//! all commands. `help`, `explaining` and `version` write what words may ask for instead of a command.
+//! burning test; `texts` wraps the parsers and writers of `sand_text`. `faults` has the one fault type of all commands.
+//! `help`, `explaining` and `version` write what words may ask for instead of a command.
 //!
 //! The commands that drop grains drop large values early, by `drop`. If one goes out of scope instead, the function's
 //! proof takes it apart field by field, on each exit path.
@@ -15,7 +15,7 @@ mod group_commands;
 mod help;
 pub mod laws;
 mod listed_drops;
-pub mod results;
+mod results;
 mod settle_command;
 mod tasks;
 mod texts;
@@ -24,8 +24,7 @@ mod version;
 pub use explaining::{write_explain_help, write_explained};
 pub use faults::{DeskFault, report_fault, status, write_fault};
 pub use help::show_help;
+pub use results::{burn_text, settle_text};
 pub use tasks::{carry_out, take_input};
-pub use texts::{
-    burn_text, pgm_text, pile_text, read_drops, read_pile, read_two, settle_text, table_text,
-};
+pub use texts::{pgm_text, pile_text, read_drops, read_pile, read_two, table_text};
 pub use version::write_version;

@@ -1,9 +1,10 @@
 //! The command `drops` at the sites listed after the pile in the input.
 
-ghost use Rattle.std.specs.Prelude.{◌≡◌, ◌+◌, ◌<◌, [], ◌∷◌, ◌++◌, false, length, vec_len, vec_capacity, if◌then◌else◌, All, None, IfOk, IfErr, OnOk, IsOkUnless};
+ghost use Rattle.std.specs.Prelude.{◌≡◌, ◌+◌, ◌<◌, [], ◌∷◌, ◌++◌, false, length, vec_len, vec_capacity, if◌then◌else◌, All, None, IfOk, IfErr, OnOk};
 ghost use Rattle.sand_model.specs.Grid.{sites};
 ghost use Rattle.sand_model.specs.Piles.{PileView};
-ghost use Rattle.sand_settle.specs.Drops.{grid_of_one_pile, IsAfter};
+ghost use Rattle.sand_settle.specs.Drops.{grid_of_driven, IsAfter};
+ghost use Rattle.sand_commands.specs.Answers.{IsText};
 ghost use Rattle.sand_commands.specs.Commands.{IsDropFault, IsDropsFault, Finds};
 ghost use Rattle.sand_commands.specs.DropsCommand.{AreNoted, IsDropsText, drops_in, drops_text_of, is_pile};
 
@@ -50,7 +51,7 @@ fn drop_all(
     drops: &[usize],
     alone: bool,
 ) -> Result<Vec<(u64, Avalanche)>, DeskFault>
-    requires { All (λ site. site < sites (grid_of_one_pile pile.old)) drops.now }
+    requires { All (λ site. site < sites (grid_of_driven pile.old)) drops.now }
     ensures rows { IfOk result (λ rows. AreNoted alone pile.old drops.now rows.items pile.new) }
     ensures after { OnOk result ((start : PileView) → IsAfter start [] pile.old → IsAfter start drops.now pile.new) }
     ensures fault { IfErr result (IsDropFault (pile.old.grains + length drops.now)) }
@@ -68,8 +69,7 @@ fn drops_text(
     rows: &[(u64, Avalanche)],
     last: &Settled,
 ) -> Result<Vec<u8>, DeskFault>
-    ensures text { IfOk result (λ text. text.items ≡ drops_text_of rows.now last.now) }
-    ensures memory { IsOkUnless result DeskFault.Memory }
+    ensures { IsText result (drops_text_of rows.now last.now) }
 {
     let mut text = table_text(alloc, rows)?;
     let heights = pile_text(alloc, last.pile())?;
@@ -85,8 +85,7 @@ fn part_text(
     last: &Settled,
     part: Part,
 ) -> Result<Vec<u8>, DeskFault>
-    ensures text { IfOk result (λ text. text.items ≡ drops_in part rows.now last.now) }
-    ensures memory { IsOkUnless result DeskFault.Memory }
+    ensures { IsText result (drops_in part rows.now last.now) }
 {
     match part {
         Part::All => drops_text(alloc, rows, last),

@@ -1,10 +1,12 @@
 //! The texts of a settled pile, and of a result of the burning test.
 
-ghost use Rattle.std.specs.Prelude.{◌≡◌, ◌++◌, ◌<◌, All, OnOk, IfOk};
+ghost use Rattle.std.specs.Prelude.{◌≡◌, ◌++◌, ◌<◌, All, OnOk};
 ghost use Rattle.std.specs.List.{flat_map};
 ghost use Rattle.sand_model.specs.Grid.{sites};
+ghost use Rattle.sand_commands.specs.Answers.{IsText};
 ghost use Rattle.sand_commands.specs.Results.{AreSitesOf, burn_text_of, place_text, settle_text_of};
 
+use crate::faults::DeskFault;
 use sand_group::Burned;
 use sand_model::Shape;
 use sand_settle::Settled;
@@ -13,8 +15,8 @@ use std::alloc::{AllocError, Global};
 
 /// The text of a settled pile: the pile, how often each site toppled, by grid rows, the grains lost, and the total
 /// topplings.
-pub fn settle_text(alloc: Global, settled: &Settled) -> Result<Vec<u8>, AllocError>
-    ensures { IfOk result (λ text. text.items ≡ settle_text_of settled.now) }
+pub fn settle_text(alloc: Global, settled: &Settled) -> Result<Vec<u8>, DeskFault>
+    ensures { IsText result (settle_text_of settled.now) }
 {
     let mut text = pile_text(alloc, settled.pile())?;
     push_odometer(&mut text, settled.pile().shape(), settled.odometers())?;
@@ -50,9 +52,9 @@ fn push_places(text: &mut Vec<u8>, shape: Shape, list: &[usize]) -> Result<(), A
 
 /// The text of the result of the burning test on a grid of this shape: that the pile is recurrent; or the number of
 /// sites in its largest forbidden set, and a line for each with its column and its row.
-pub fn burn_text(alloc: Global, shape: Shape, burned: &Burned) -> Result<Vec<u8>, AllocError>
+pub fn burn_text(alloc: Global, shape: Shape, burned: &Burned) -> Result<Vec<u8>, DeskFault>
     requires { AreSitesOf shape burned.now }
-    ensures { IfOk result (λ text. text.items ≡ burn_text_of shape burned.now) }
+    ensures { IsText result (burn_text_of shape burned.now) }
 {
     let mut text = Vec::new(alloc);
     match burned {

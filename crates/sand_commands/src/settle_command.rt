@@ -1,6 +1,6 @@
 //! The command `settle`.
 
-ghost use Rattle.std.specs.Prelude.{◌≡◌, IfOk, IfErr, IsOkUnless};
+ghost use Rattle.std.specs.Prelude.{◌≡◌, IfOk, IfErr};
 ghost use Rattle.sand_model.specs.Piles.{height_of};
 ghost use Rattle.sand_model.specs.Sand.{IsStable};
 ghost use Rattle.sand_text.specs.Reading.{pile_of};
@@ -8,7 +8,8 @@ ghost use Rattle.sand_commands.specs.Commands.{IsUnreadable, Finds};
 ghost use Rattle.sand_commands.specs.SettleCommand.{IsSettleText};
 
 use crate::faults::DeskFault;
-use crate::texts::{pgm_text, pile_text, read_pile, settle_text};
+use crate::results::settle_text;
+use crate::texts::{pgm_text, pile_text, read_pile};
 use sand_cli::Form;
 use sand_settle::settle;
 use std::alloc::Global;

@@ -1,18 +1,12 @@
 -- How a command ends, given how its reading, its work or its writing ended.
-use Rattle.std.proofs.lemmas.Grind.{common_steps}
-use Rattle.std.proofs.Common.{◌≡◌, ◌+◌, ◌≤◌, ℕ, Bool, List, true, false, length, sym, ap, ◌∙◌, arith}
+use Rattle.sand_desk.proofs.Common.{common_steps, ◌≡◌, ◌+◌, ◌≤◌, ℕ, Bool, List, true, false, length, sym, ap, ◌∙◌, arith, Option, Some, None, Keeps, DeskFault, of_stream, Call, asks_for_input, IsTextOf, IsFaultOf, IsRead, IsFaulty, IsStarved, EndsBy, HelpsIfAsked, TellsWords}
 use Rattle.std.proofs.Math.Seq.{drop-length}
-use Rattle.std.specs.Prelude.{Option, Some, None}
-use Rattle.std.specs.Io.KnownBytes.{Keeps}
 use Rattle.sand_text.specs.declared.fault.StreamFault.{StreamFault}
 use Rattle.sand_text.specs.declared.fault.StreamFault.TheVariants as stream
 use Rattle.sand_text.specs.Flow.{GivesAll, IsFurther, IsFurtherByAtMost, IsOfReading, most_bytes}
 use Rattle.clap.specs.Words.{Text}
 use Rattle.sand_cli.specs.declared.task.Task.{Task}
-use Rattle.sand_commands.specs.declared.faults.DeskFault.{DeskFault}
-use Rattle.sand_commands.specs.Faults.{of_stream}
 use Rattle.sand_commands.specs.Commands.{Finds, IsBrokenOff, Takes, WorkEnds, reads_input}
-use Rattle.sand_desk.specs.Commands.{Call, asks_for_input, IsTextOf, IsFaultOf, IsRead, IsFaulty, IsStarved, EndsBy, HelpsIfAsked, TellsWords}
 
 -- the reader gave nothing
 none_given : (left left' : Option (List ℕ)) → Keeps left left' → IsFurtherByAtMost left left' most_bytes

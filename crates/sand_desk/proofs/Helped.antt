@@ -1,14 +1,8 @@
 -- A command whose words ask for help: nothing was read or written before the help is shown.
-use Rattle.std.proofs.lemmas.Grind.{common_steps}
-use Rattle.std.proofs.Common.{◌≡◌, ℕ, List, arith}
+use Rattle.sand_desk.proofs.Common.{common_steps, ◌≡◌, ℕ, List, arith, Option, None, Appends, Keeps, Call, EndsBy, HelpsIfAsked, IsMisuse, TellsWords, call_of, status_of, DeskFault}
 use Rattle.std.proofs.KnownBytes.{Keeps-trans}
-use Rattle.std.specs.Prelude.{Option, None}
-use Rattle.std.specs.Io.KnownBytes.{Appends, Keeps}
-use Rattle.sand_desk.specs.Commands.{Call, EndsBy, HelpsIfAsked, IsMisuse, TellsWords, call_of}
-use Rattle.sand_commands.specs.Faults.{status_of}
 use Rattle.sand_commands.specs.Help.{IsUnhelped, IsUnshown}
 use Rattle.sand_desk.specs.Helping.{IsUnperformed}
-use Rattle.sand_commands.specs.declared.faults.DeskFault.{DeskFault}
 
 no_help : {A : Type 0} → (◌≡◌ {A = ℕ} 1 0) → A
 no_help e = absurd (omega (arith, e))

@@ -4,3 +4,4 @@ pub mod OneText
 pub mod OneDropper
 pub mod OwnTexts
 pub mod WithoutLab
+pub mod Common

@@ -1,17 +1,14 @@
 -- The drops of a draw and those of one dropper are the same at each site, so they leave the same settled record.
-use Rattle.std.proofs.lemmas.Grind.{common_steps}
-use Rattle.std.proofs.Common.{◌≡◌, ◌+◌, ℕ, List, [], ◌∷◌, length, sym, ap, ◌∙◌, subst, arith}
-use Rattle.std.specs.Prelude.{Result, Ok, Err}
+use Rattle.sand_desk.proofs.Common.{common_steps, ◌≡◌, ◌+◌, ℕ, List, [], ◌∷◌, length, sym, ap, ◌∙◌, subst, arith, Result, Ok, Err, AreEpochs, IsReport, ReportView, SheetView, histories}
 use Rattle.sand_model.specs.Grid.{sites}
 use Rattle.sand_model.specs.Piles.{PileView}
 use Rattle.sand_model.specs.Sand.{occurrences, sum_below}
 use Rattle.sand_model.proofs.Occurrences.{occurrences-append}
-use Rattle.sand_settle.specs.Drops.{OneView, IsAfter}
+use Rattle.sand_settle.specs.Drops.{DrivenView, IsAfter}
 use Rattle.sand_settle.specs.Settling.{SettledView}
 use Rattle.sand_shared.specs.Record.{RecordView}
 use Rattle.sand_shared.proofs.Receipts.{is_one_threads}
 use Rattle.sand_plan.specs.declared.wish.Wish.{Wish}
-use Rattle.sand_lab.specs.Reports.{AreEpochs, IsReport, ReportView, SheetView, histories}
 use Rattle.sand_lab.specs.Streams.{stream_of, stream_sites}
 use Rattle.sand_lab.proofs.RunHasOneOutcome.{one_threads_once}
 use Rattle.sand_text.specs.declared.fault.TextFault.{TextFault}
@@ -48,7 +45,7 @@ run_of_draw draw album w asks start (r ∷ q ∷ rs) ss one epochs i = absurd (o
 
 -- the record of the run is that of the single-threaded pile
 same_record : (draw : Draw) (album : List ℕ) (w : Wish) → DropsTheDraw draw w
-    → (start : PileView) (last : OneView) (report : ReportView)
+    → (start : PileView) (last : DrivenView) (report : ReportView)
     → IsAfter start (drawn_on draw start) last
     → IsReport album w start report → last.settled ≡ report.total.settled
 same_record draw album w asks start last report after left =

@@ -1,22 +1,17 @@
 -- Two runs that ask for the same thing write the same text.
-use Rattle.std.proofs.lemmas.Grind.{common_steps}
-use Rattle.std.proofs.Common.{arith, ◌≡◌, ℕ, false, List, [], ◌++◌, map, sum, sym, ap, ap₂, ◌∙◌}
-use Rattle.std.specs.Prelude.{Result, Ok, Err}
+use Rattle.sand_desk.proofs.Common.{common_steps, arith, ◌≡◌, ℕ, false, List, [], ◌++◌, map, sum, sym, ap, ap₂, ◌∙◌, Result, Ok, Err, lab_text_of, ReportView, lab_text_of_report, report_text_of, OneLabText}
 use Rattle.std.proofs.lemmas.Simd.{map-map}
 use Rattle.sand_model.specs.Piles.{PileView}
-use Rattle.sand_settle.specs.Drops.{OneView}
+use Rattle.sand_settle.specs.Drops.{DrivenView}
 use Rattle.sand_text.specs.declared.fault.TextFault.{TextFault}
 use Rattle.sand_text.specs.declared.runs.Sums.{Sums}
 use Rattle.sand_text.specs.Pictures.{pgm_text_of}
-use Rattle.sand_text.specs.Runs.{lab_text_of}
 use Rattle.sand_text.specs.Texts.{text_of}
 use Rattle.sand_cli.specs.declared.task.Form.{Form}
 use Rattle.sand_cli.specs.declared.task.Form.TheVariants.{Graymap, Pile, Text}
 use Rattle.sand_lab.specs.Laws.{AreAlike, OneOutcome, one_of}
-use Rattle.sand_lab.specs.Reports.{ReportView}
-use Rattle.sand_desk.specs.Laboratory.{lab_text_of_report, report_text_of, OneLabText}
 
-sums_of_one : OneView → Sums
+sums_of_one : DrivenView → Sums
 sums_of_one o = record {
   drops = o.number;
   topplings = o.settled.topplings;
@@ -25,7 +20,7 @@ sums_of_one o = record {
 }
 
 -- what a report shows is what its single-threaded piles show
-shown : List OneView → OneView → List ℕ
+shown : List DrivenView → DrivenView → List ℕ
 shown ones total = lab_text_of (map sums_of_one ones) (sums_of_one total) total.settled.pile total.settled.odometer
 
 text_shown : (p : ReportView) → lab_text_of_report p ≡ shown (map one_of p.records) (one_of p.total)
@@ -33,8 +28,8 @@ unfolding shown sums_of_one
 text_shown p = grind (arith, common_steps, map-map, sums_of_one)
 
 same_text : (form : Form) (p q : ReportView) → AreAlike p q → report_text_of false form p ≡ report_text_of false form q
-same_text Graymap p q alike = ap (λ (o : OneView). pgm_text_of o.settled.pile) alike.total
-same_text Pile p q alike = ap (λ (o : OneView). text_of o.settled.pile) alike.total
+same_text Graymap p q alike = ap (λ (o : DrivenView). pgm_text_of o.settled.pile) alike.total
+same_text Pile p q alike = ap (λ (o : DrivenView). text_of o.settled.pile) alike.total
 same_text Text p q alike =
     ap (λ text. text ++ []) (text_shown p ∙ ap₂ shown alike.epochs alike.total ∙ sym (text_shown q))
 

@@ -1,13 +1,7 @@
 -- How a text of the program itself ends: it was written, the writer failed, or memory ran out.
-use Rattle.std.proofs.Common.{◌≡◌, ◌≢◌, ◌≤◌, ℕ, List, length, take, refl, sym, subst, arith, ⊎_elim}
-use Rattle.std.specs.Prelude.{Option, Some}
-use Rattle.std.specs.Io.KnownBytes.{Appends, Keeps}
-use Rattle.sand_desk.specs.Commands.{TellsWords}
-use Rattle.sand_commands.specs.Faults.{status_of}
+use Rattle.sand_desk.proofs.Common.{◌≡◌, ◌≢◌, ◌≤◌, ℕ, List, length, take, refl, sym, subst, arith, ⊎_elim, Option, Some, Appends, Keeps, TellsWords, status_of, keeps, DeskFault}
 use Rattle.sand_commands.specs.Help.{IsShown, IsShownInPart, IsUnshown}
 use Rattle.sand_commands.specs.Version.{version_text}
-use Rattle.sand_commands.proofs.Endings.{keeps}
-use Rattle.sand_commands.specs.declared.faults.DeskFault.{DeskFault}
 use Rattle.sand_commands.specs.declared.faults.DeskFault.TheVariants.{Memory, Write}
 
 pub version_written : (left held held' : Option (List ℕ)) → Appends held held' version_text

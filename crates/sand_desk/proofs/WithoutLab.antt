@@ -1,11 +1,7 @@
 -- What a task without the laboratory writes, and refuses, is what the task writes and refuses.
-use Rattle.std.proofs.lemmas.Grind.{common_steps}
-use Rattle.std.proofs.Common.{arith, ℕ, List, inl, inr, ⊎_elim}
-use Rattle.std.specs.Prelude.{Option}
+use Rattle.sand_desk.proofs.Common.{common_steps, arith, ℕ, List, inl, inr, ⊎_elim, Option, DeskFault, IsFaultOf, IsTextOf}
 use Rattle.sand_cli.specs.declared.task.Task.{Task}
-use Rattle.sand_commands.specs.declared.faults.DeskFault.{DeskFault}
 use Rattle.sand_commands.specs.Commands.{Finds, IsBrokenOff, IsFaultWithoutLab, IsRefused, IsTextWithoutLab, IsWritten, WorkEnds}
-use Rattle.sand_desk.specs.Commands.{IsFaultOf, IsTextOf}
 
 text_of : (task : Task) (input text : List ℕ) → IsTextWithoutLab task input text → IsTextOf task input text
 text_of task input text is = grind (arith, common_steps)

@@ -1,12 +1,13 @@
 //! The command `lab`, and the texts of a report.
 
-ghost use Rattle.std.specs.Prelude.{ℕ, ◌≡◌, ◌+◌, ◌++◌, List, map, sum, IfOk, IfErr, OnOk, IsOkUnless};
+ghost use Rattle.std.specs.Prelude.{ℕ, ◌≡◌, ◌+◌, ◌++◌, List, map, sum, IfOk, IfErr, OnOk};
 ghost use Rattle.sand_shared.specs.Record.{IsOneThreads};
 ghost use Rattle.sand_text.specs.Runs.{journal_lines};
 ghost use Rattle.sand_cli.specs.Asked.{IsRun};
 ghost use Rattle.sand_cli.specs.declared.task.Form.TheVariants as forms;
 ghost use Rattle.sand_plan.specs.Plans.{all_drops};
 ghost use Rattle.sand_lab.specs.Reports.{IsReport};
+ghost use Rattle.sand_commands.specs.Answers.{IsText};
 ghost use Rattle.sand_commands.specs.Commands.{Finds};
 ghost use Rattle.sand_desk.specs.Commands.{IsLabFault, IsRunFault};
 ghost use Rattle.sand_desk.specs.Laboratory.{IsLabText, dropper_and_site, journal_text_of_report, lab_text_of_report, report_text_of, sums_of};
@@ -44,8 +45,7 @@ fn sums_of_all(alloc: Global, records: &[Record]) -> Result<Vec<Sums>, AllocErro
 
 /// The text of a report: the sums of each epoch and of all epochs, the last pile, and how often each site toppled.
 pub fn lab_text(alloc: Global, report: &Report) -> Result<Vec<u8>, DeskFault>
-    ensures text { IfOk result (λ text. text.items ≡ lab_text_of_report report.now) }
-    ensures memory { IsOkUnless result DeskFault.Memory }
+    ensures { IsText result (lab_text_of_report report.now) }
 {
     let total = report.total();
     let epochs = sums_of_all(alloc, report.records())?;
@@ -81,8 +81,7 @@ fn push_journals(text: &mut Vec<u8>, report: &Report) -> Result<(), AllocError>
 
 /// The journal of a report: a line for each drop, by epoch and by number within it.
 pub fn journal_text(alloc: Global, report: &Report) -> Result<Vec<u8>, DeskFault>
-    ensures text { IfOk result (λ text. text.items ≡ journal_text_of_report report.now) }
-    ensures memory { IsOkUnless result DeskFault.Memory }
+    ensures { IsText result (journal_text_of_report report.now) }
 {
     let mut text = Vec::new(alloc);
     push_journals(&mut text, report)?;
@@ -127,8 +126,7 @@ fn report_on<T: Threads + Sync, G: Gate>(
 
 // The text of a report, with its journal if wanted.
 fn whole_text(alloc: Global, report: &Report, journal: bool) -> Result<Vec<u8>, DeskFault>
-    ensures text { IfOk result (λ text. text.items ≡ report_text_of journal forms.Text report.now) }
-    ensures memory { IsOkUnless result DeskFault.Memory }
+    ensures { IsText result (report_text_of journal forms.Text report.now) }
 {
     let mut text = lab_text(alloc, report)?;
     if journal {
@@ -146,8 +144,7 @@ pub(crate) struct Output {
 
 fn report_text(alloc: Global, report: &Report, output: Output) -> Result<Vec<u8>, DeskFault>
     requires { IsOneThreads report.now.total }
-    ensures text { IfOk result (λ text. text.items ≡ report_text_of output.journal output.form report.now) }
-    ensures memory { IsOkUnless result DeskFault.Memory }
+    ensures { IsText result (report_text_of output.journal output.form report.now) }
 {
     match output.form {
         Form::Text => whole_text(alloc, report, output.journal),

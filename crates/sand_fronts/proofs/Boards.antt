@@ -1,17 +1,8 @@
 -- The neighbours of the tile of a site are on the board.
-use Rattle.std.proofs.Common.{ℕ, Bool, true, false, cond, eqb, ◌&&◌, ◌≡◌, ◌+◌, ◌-◌, ◌*◌, ◌/◌, ◌%◌, ◌<◌, ◌≤◌, List, length, sym, ◌∙◌, ap, arith, refl}
-use Rattle.std.specs.Vec.{with_item}
-use Rattle.std.proofs.lemmas.List.{length-set}
-use Rattle.std.proofs.lemmas.Nat.{mul-add-lt, div_below}
-use Rattle.sand_model.specs.Grid.{Grid, IsGrid, sites, joins}
+use Rattle.sand_fronts.proofs.Common.{ℕ, Bool, true, false, cond, eqb, ◌&&◌, ◌≡◌, ◌+◌, ◌-◌, ◌*◌, ◌/◌, ◌%◌, ◌<◌, ◌≤◌, List, length, sym, ◌∙◌, ap, arith, refl, with_item, length-set, mul-add-lt, div_below, Grid, IsGrid, sites, joins, Tile, Beside, Sand, across, down, pitch, tiles, place_of, seam_west, seam_east, IsBoard, IsSand, open_beside, IsBeside, AreBeside, beside_at}
 use Rattle.sand_model.specs.declared.shape.Edge.TheVariants.{Open}
-use Rattle.sand_tiles.specs.declared.tile.Tile.{Tile}
-use Rattle.sand_fronts.specs.declared.sides.Beside.{Beside}
 use Rattle.sand_fronts.specs.declared.board.Board.{Board}
-use Rattle.sand_fronts.specs.declared.sand.Sand.{Sand}
-use Rattle.sand_fronts.specs.Tiling.{across, down, pitch, tiles, tile_of, place_of, to_west, to_east, shift_west, shift_east, seam_west, seam_east}
-use Rattle.sand_fronts.specs.Boards.{IsBoard, IsSand}
-use Rattle.sand_fronts.specs.Waves.{open_beside, IsBeside, AreBeside, beside_at}
+use Rattle.sand_fronts.specs.Tiling.{tile_of, to_west, to_east, shift_west, shift_east}
 use Rattle.sand_fronts.proofs.NeighboursOnTiles.{parts_of, site_at}
 
 -- the tile of a site is not in the last row of tiles

@@ -1,25 +1,6 @@
 -- The places of tiles that leave a wave and are counted.
-use Rattle.std.proofs.Common.{ℕ, suc, zero, max, List, [], ◌∷◌, ◌++◌, replicate, Vec, Global, length, get_or, cond, eqb, refl, ◌≡◌, ◌≢◌, ◌+◌, ◌*◌, ◌<◌, ◌≤◌, sym, ◌∙◌, ap, ap₂, arith, ⊎_elim, inl, inr, subst, ◌⊎◌}
-use Rattle.std.specs.Prelude.{bit_or, slice_index, vec_capacity}
-use Rattle.std.specs.Vec.{with_item}
-use Rattle.std.proofs.Math.Nat.{mul-le-mul_right}
-use Rattle.std.proofs.Math.ListN.{set}
-use Rattle.std.proofs.lemmas.Bool.{cases_eq}
-use Rattle.std.proofs.lemmas.List.{get_or-set_same, get_or-set_other, length-set, get_or-replicate}
-use Rattle.std.proofs.lemmas.Bool.Decides.{nat_tests}
-use Rattle.sand_model.specs.Sand.{sum_below, one_at}
-use Rattle.sand_model.proofs.SumsBelow.{sum_below_same, sum_below-add, sum_below-one_at, sum_below_none}
-use Rattle.sand_tiles.specs.declared.tile.Tile.{Tile}
+use Rattle.sand_fronts.proofs.Common.{ℕ, suc, zero, max, List, [], ◌∷◌, ◌++◌, replicate, Vec, Global, length, get_or, cond, eqb, refl, ◌≡◌, ◌≢◌, ◌+◌, ◌*◌, ◌<◌, ◌≤◌, sym, ◌∙◌, ap, arith, ⊎_elim, inl, inr, subst, ◌⊎◌, bit_or, slice_index, vec_capacity, with_item, mul-le-mul_right, set, cases_eq, get_or-set_same, get_or-set_other, length-set, get_or-replicate, nat_tests, sum_below, one_at, sum_below_same, sum_below-add, sum_below-one_at, sum_below_none, Tile, bit, number, Count, counted, times, IsRecent, IsCount, no_recent, bit_le, bit_none, either, both_le, IsClear, tile_at, Counts, spilled_at, over_wave, with_wave, counts_of, marks_of, AreCounted, AddsSet, MarksView, in_sets, AreMarked}
 use Rattle.sand_tiles.specs.declared.counting.Recent.{Recent}
-use Rattle.sand_tiles.specs.Places.{bit, number}
-use Rattle.sand_tiles.specs.Counts.{Count, count_of, counted, times, IsRecent, IsCount, no_recent}
-use Rattle.sand_tiles.proofs.Bits.{bit_le, bit_none, either, both_le}
-use Rattle.sand_fronts.specs.TileLists.{IsClear}
-use Rattle.sand_fronts.specs.Waves.{tile_at}
-use Rattle.sand_fronts.specs.declared.counts.Counts.{Counts}
-use Rattle.sand_fronts.specs.Counting.{spilled_at, over_wave, with_wave}
-use Rattle.sand_fronts.specs.Boards.{counts_of, marks_of, AreCounted, AddsSet, AreCleared}
-use Rattle.sand_fronts.specs.Marking.{MarksView, in_sets, AreMarked}
 use Rattle.sand_fronts.proofs.Gained.{tile_set}
 use Rattle.sand_fronts.proofs.Sums.{sum_below_most}
 use Rattle.sand_fronts.proofs.OnTiles.{height_low}
@@ -62,22 +43,6 @@ adds_none one none = record {
 pub recent_none : {r : Recent} → r ≡ no_recent → IsRecent r
 recent_none e =
     subst IsRecent (sym e) (record { bound = omega arith; each = λ p low. let z = bit_none p in omega arith })
-
--- with no spilled topplings of tile k, and its planes cleared, its counts are 0
-pub cleared_at : (c : Counts) (ss : Vec (List ℕ) Global) (k : ℕ) → k < length c.each.items
-    → vec_capacity ss ≡ vec_capacity c.spilled → ((p : ℕ) → p < 64 → spilled_at ss.items k p ≡ 0)
-    → ((m : ℕ) → m ≢ k → get_or ss.items m [] ≡ get_or c.spilled.items m [])
-    → AreCleared k c (record c { each = with_item c.each k no_recent; spilled = ss })
-cleared_at c ss k inside room none others =
-    let here = get_or-set_same c.each.items k no_recent no_recent inside in
-    record {
-      counts_each = length-set {A = Recent} c.each.items k no_recent;
-      room = room;
-      marks = refl;
-      sound = recent_none here;
-      none = λ p low. rw here (omega (arith, none p low, bit_none p));
-      others = λ m ne. ap₂ count_of (get_or-set_other c.each.items k m no_recent no_recent ne) (others m ne);
-    }
 
 -- ---- what is marked
 
@@ -215,9 +180,6 @@ few_over_wave n ν τ = few_on_places n 7 (λ k p. number (ν k) p * bit (τ k).
     omega (arith, bit_le (τ k).wave p, mul-le-mul_right (bit (τ k).wave p) few))
 
 -- ---- turn by turn
-
-abbrev pub AreNone : Count → Type 0
-AreNone c = (p : ℕ) → p < 64 → counted c p ≡ 0
 
 -- each number is in a list, from one position to before another, or it has P
 abbrev pub AreIn : (ℕ → Type 0) → List ℕ → ℕ → ℕ → Type 0

@@ -1,12 +1,5 @@
 -- A list to which numbers are added, those of eight sites at a time.
-use Rattle.std.proofs.Common.{ℕ, List, ◌≡◌, ◌+◌, ◌-◌, ◌*◌, ◌/◌, ◌<◌, ◌≤◌, min, refl, sym, ◌∙◌, ap, arith, ⊎_elim}
-use Rattle.std.specs.Prelude.{slice_index}
-use Rattle.std.proofs.lemmas.Bool.{cases_lt}
-use Rattle.std.proofs.lemmas.Nat.{mul-add-lt}
-use Rattle.sand_model.specs.Grid.{Grid, sites}
-use Rattle.sand_fronts.specs.declared.reach.Spot.{Spot}
-use Rattle.sand_fronts.specs.Tiling.{pitch, tile_of, place_of}
-use Rattle.sand_fronts.specs.Reading.{IsFirstOfEight, AreOfEight, AddsBetween}
+use Rattle.sand_fronts.proofs.Common.{ℕ, List, ◌≡◌, ◌+◌, ◌-◌, ◌*◌, ◌/◌, ◌<◌, ◌≤◌, min, refl, sym, ◌∙◌, ap, arith, ⊎_elim, slice_index, cases_lt, mul-add-lt, Grid, sites, Spot, pitch, tile_of, place_of, IsFirstOfEight, AreOfEight, AddsBetween}
 use Rattle.sand_fronts.proofs.Boards.{found_at}
 
 -- entry i of the list of eight numbers is that of site j

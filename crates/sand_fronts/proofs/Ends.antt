@@ -1,19 +1,6 @@
 -- How a wave begins, the heights after it, and when the next one follows.
-use Rattle.std.proofs.Common.{ℕ, ◌≡◌, ◌≢◌, ◌+◌, ◌-◌, ◌*◌, ◌<◌, ◌≤◌, sym, ◌∙◌, arith}
-use Rattle.std.proofs.lemmas.Bool.{cases_eq}
-use Rattle.std.proofs.lemmas.Bool.Decides.{nat_tests}
-use Rattle.sand_model.specs.Grid.{Grid, sites}
-use Rattle.sand_model.specs.Sand.{Stabilises, IsToppled, flow, one_at}
-use Rattle.sand_model.proofs.Flow.{flow_le, flow_same, flow-add, flow-one_at, flow_none}
-use Rattle.sand_model.proofs.Sandpile.{flow_ones, weight_after, laplacian_sum}
-use Rattle.sand_model.proofs.SumsBelow.{sum_below_same, sum_below-add, one_at_same, one_at_other, one_at_comm}
-use Rattle.sand_tiles.specs.declared.tile.Tile.{Tile}
-use Rattle.sand_tiles.specs.Places.{bit, height}
-use Rattle.sand_tiles.proofs.Bits.{bit_le}
-use Rattle.sand_fronts.specs.Tiling.{tile_of, place_of}
+use Rattle.sand_fronts.proofs.Common.{ℕ, ◌≡◌, ◌≢◌, ◌+◌, ◌-◌, ◌*◌, ◌<◌, ◌≤◌, sym, ◌∙◌, arith, cases_eq, nat_tests, Grid, sites, Stabilises, IsToppled, flow, one_at, flow_le, flow_same, flow-add, flow-one_at, flow_none, flow_ones, weight_after, laplacian_sum, sum_below_same, sum_below-add, one_at_same, one_at_other, one_at_comm, Tile, bit, height, bit_le, tile_of, place_of, IsOneWave, toppled, IsWholeWave, AreAtRest, heights_before}
 use Rattle.sand_model.specs.Underway.{Advances}
-use Rattle.sand_fronts.specs.WaveSizes.{IsOneWave}
-use Rattle.sand_fronts.specs.Waves.{toppled, IsWholeWave, AreAtRest, heights_before}
 use Rattle.sand_fronts.proofs.OnTiles.{place_below, on_tiles_is, height_low}
 use Rattle.sand_fronts.proofs.Waves.{IsUnderWay}
 use Rattle.sand_fronts.proofs.WaveSizes.{covers_of}

@@ -1,19 +1,7 @@
 -- Tiles filled with a number for each site.
-use Rattle.std.proofs.Common.{ℕ, zero, suc, Bool, true, false, cond, List, ◌∷◌, [], ◌++◌, length, get_or, Some, None, ◌≡◌, ◌+◌, ◌-◌, ◌*◌, ◌%◌, ◌^◌, ◌<◌, ◌≤◌, refl, sym, ◌∙◌, ap, subst, arith, ⊎_elim}
-use Rattle.std.specs.Prelude.{bit_or}
-use Rattle.std.proofs.lemmas.Bool.{cases_lt}
-use Rattle.std.proofs.lemmas.Bool.Decides.{nat_tests}
-use Rattle.std.proofs.lemmas.List.{get_or_append_left, get_or_push}
-use Rattle.std.proofs.lemmas.Nat.Bits.{bit_at_lowest, bit_at_above, bit_at_ones}
-use Rattle.std.proofs.Math.ListN.{get_or-eq_default}
-use Rattle.sand_model.specs.Grid.{Grid}
-use Rattle.sand_tiles.specs.declared.tile.Tile.{Tile}
-use Rattle.sand_tiles.specs.Places.{bit, number, had}
-use Rattle.sand_tiles.proofs.Bits.{apart, bit_le, bit_none}
-use Rattle.sand_tiles.proofs.Moves.{bit_shl, bit_shl_low}
-use Rattle.sand_fronts.specs.declared.reach.Spot.{Spot}
-use Rattle.sand_fronts.specs.Tiling.{tiles, row_at, column_at, is_site, site_on, on_tiles}
-use Rattle.sand_fronts.specs.Filling.{Tells, IsFilled, IsInner}
+use Rattle.sand_fronts.proofs.Common.{ℕ, zero, suc, Bool, true, false, cond, List, ◌∷◌, [], ◌++◌, length, get_or, Some, None, ◌≡◌, ◌+◌, ◌-◌, ◌*◌, ◌%◌, ◌^◌, ◌<◌, ◌≤◌, refl, sym, ◌∙◌, ap, subst, arith, ⊎_elim, bit_or, cases_lt, nat_tests, get_or_append_left, get_or_push, bit_at_lowest, bit_at_above, bit_at_ones, get_or-eq_default, Grid, Tile, number, had, apart, bit_le, bit_none, bit_shl, bit_shl_low, Spot, tiles, row_at, column_at, on_tiles, Tells, IsFilled, IsInner}
+use Rattle.sand_tiles.specs.Places.{bit}
+use Rattle.sand_fronts.specs.Tiling.{is_site, site_on}
 use Rattle.sand_fronts.proofs.OnTiles.{in_grid, on_site, off_site, on_below, on_place}
 use Rattle.sand_fronts.proofs.Boards.{tile_inside}
 
@@ -53,7 +41,7 @@ pub spot_in : (g : Grid) (k p : ℕ) (s : Spot) → cond (is_site g k p) (Some (
 spot_in g k p s e =
     let t = told (is_site g k p) (spot_at g k p) s e in
     let bounds = in_grid g k p t.0 in
-    subst (λ (x : Spot). (x.row < g.height) × (x.column < g.width)) t.1 (bounds.2, bounds.3)
+    subst (λ (x : Spot). (x.row < g.height) × (x.column < g.width)) t.1 (bounds.high, bounds.wide)
 
 pub site_number : (g : Grid) (k p : ℕ) (s : Spot) (n : ℕ) (post : Spot → ℕ → Type 0)
     → cond (is_site g k p) (Some (spot_at g k p)) None ≡ Some s → post s n

@@ -1,14 +1,6 @@
 -- Grains added to one tile of a list, and to one after another.
-use Rattle.std.proofs.Common.{ℕ, List, cond, eqb, get_or, ◌≡◌, ◌+◌, ◌%◌, ◌^◌, ◌<◌, ◌≤◌, length, refl, sym, ◌∙◌, ap, subst, arith, ⊎_elim}
-use Rattle.std.proofs.Math.ListN.{set}
-use Rattle.std.proofs.lemmas.Bool.{cases_eq, eq-eqb, ne_eqb}
-use Rattle.std.proofs.lemmas.List.{get_or-set_same, get_or-set_other, get_or_read}
-use Rattle.std.proofs.lemmas.Nat.Bits.{same_from_bits_below, bit_at-zero}
-use Rattle.sand_tiles.specs.declared.tile.Tile.{Tile}
-use Rattle.sand_tiles.specs.Places.{bit, height, had, Receives}
-use Rattle.sand_tiles.proofs.Moves.{cut}
-use Rattle.sand_fronts.specs.TileLists.{IsClear}
-use Rattle.sand_fronts.specs.Waves.{tile_at, only, Gains}
+use Rattle.sand_fronts.proofs.Common.{ℕ, List, cond, eqb, get_or, ◌≡◌, ◌+◌, ◌%◌, ◌^◌, ◌<◌, ◌≤◌, length, refl, sym, ◌∙◌, ap, subst, arith, ⊎_elim, set, cases_eq, eq-eqb, ne_eqb, get_or-set_same, get_or-set_other, get_or_read, same_from_bits_below, bit_at-zero, Tile, height, had, Receives, cut, tile_at, only, Gains}
+use Rattle.sand_tiles.specs.Places.{bit}
 use Rattle.sand_fronts.proofs.Waves.{only_same, only_other}
 use Rattle.sand_fronts.proofs.OnTiles.{height_low}
 
@@ -21,12 +13,6 @@ unfolding bit
 no_place a none =
     same_from_bits_below 64 (a % 2 ^ 64) 0 (omega arith) (omega arith)
     (λ p low. cut a p low ∙ none p low ∙ sym (bit_at-zero p))
-
-pub tile_set_same : (ts : List Tile) (k m : ℕ) (t : Tile) → k < length ts → m ≡ k → tile_at (set ts k t) m ≡ t
-tile_set_same ts k m t inside e = ap (tile_at (set ts k t)) e ∙ get_or-set_same ts k t blank inside
-
-pub tile_set_other : (ts : List Tile) (k m : ℕ) (t : Tile) → (m ≡ k → ⊥) → tile_at (set ts k t) m ≡ tile_at ts m
-tile_set_other ts k m t ne = get_or-set_other ts k m t blank ne
 
 -- a tile that is read
 pub tile_read : (ts : List Tile) (k : ℕ) (x : Tile) → k < length ts → x ≡ get_or ts k x → x ≡ tile_at ts k
@@ -56,11 +42,6 @@ cond_each P f k x here others = changed_each P f (λ m. cond (eqb m k) x (f m)) 
 pub tile_set : (P : ℕ → Tile → Type 0) (ts : List Tile) (k : ℕ) (t : Tile) → k < length ts → P k t
     → ((m : ℕ) → (m ≡ k → ⊥) → P m (tile_at ts m)) → (m : ℕ) → P m (tile_at (set ts k t) m)
 tile_set P ts k t inside here others = set_each blank P ts k t inside here others
-
-pub tile_clear : (ts : List Tile) (k : ℕ) (t : Tile) → k < length ts → t.wave ≡ (tile_at ts k).wave
-    → ((m : ℕ) → IsClear (tile_at ts m)) → (m : ℕ) → IsClear (tile_at (set ts k t) m)
-tile_clear ts k t inside same clear =
-    tile_set (λ m x. IsClear x) ts k t inside (λ p low. ap (λ w. bit w p) same ∙ clear k p low) (λ m ne. clear m)
 
 pub gains_one : (free : ℕ → ℕ) (ts : List Tile) (k : ℕ) (t : Tile) (gain : ℕ) → k < length ts
     → Receives (tile_at ts k) t gain (free k)

@@ -19,7 +19,5 @@ pub mod NewPiles
 pub mod Marked
 pub mod Reached
 pub mod OnPiles
-pub mod WrittenBack
-pub mod HeightsWritten
-pub mod DropsInto
 pub mod Eights
+pub mod Common

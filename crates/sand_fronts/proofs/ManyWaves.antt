@@ -1,29 +1,8 @@
 -- From one wave of a drop to the next.
-use Rattle.std.proofs.Common.{ℕ, Bool, true, false, cond, eqb, ltb, leb, ◌&&◌, List, ◌≡◌, ◌≢◌, ◌+◌, ◌*◌, ◌^◌, ◌<◌, ◌≤◌, refl, sym, ◌∙◌, ap, arith, ⊎_elim}
-use Rattle.std.proofs.Math.Nat.{mul-le-mul_right}
-use Rattle.std.proofs.lemmas.Bool.{cases_eq, leb-true, leb-false}
-use Rattle.std.proofs.lemmas.Bool.Decides.{nat_tests}
-use Rattle.sand_model.specs.Grid.{Grid, IsGrid, sites, missing}
-use Rattle.sand_model.specs.Sand.{IsSettled, flow, one_at, topplings, lost, weight, grain_weight, sum_below}
+use Rattle.sand_fronts.proofs.Common.{ℕ, Bool, true, false, cond, eqb, ltb, leb, ◌&&◌, List, ◌≡◌, ◌≢◌, ◌+◌, ◌*◌, ◌^◌, ◌<◌, ◌≤◌, refl, sym, ◌∙◌, ap, arith, ⊎_elim, mul-le-mul_right, cases_eq, leb-true, leb-false, nat_tests, Grid, IsGrid, sites, IsSettled, flow, one_at, topplings, lost, weight, grain_weight, sum_below, flow_le, flow_ones, weight_after, sum_below_same, sum_below_le, sum_below-add, sum_below-scale, sum_below-one_at, one_at_same, one_at_other, sum_below_none, all_or_one, at_most_one, underway_start, underway_end, advances_on, Tile, bit, number, Count, counted, bit_le, tiles, tile_of, place_of, on_tiles, IsClear, Counts, tile_at, toppled, IsWave, IsWholeWave, AreAtRest, heights_before, IsOneWave, over_wave, counts_of, AreCounted, heights_on, grown_on, AreOutside, AreQuiet}
+use Rattle.sand_model.specs.Grid.{missing}
 use Rattle.sand_model.specs.Underway.{Advances}
-use Rattle.sand_model.proofs.Flow.{flow_le}
-use Rattle.sand_model.proofs.Sandpile.{flow_ones, weight_after}
-use Rattle.sand_model.proofs.SumsBelow.{sum_below_same, sum_below_le, sum_below-add, sum_below-scale, sum_below-one_at, one_at_same, one_at_other, sum_below_none}
-use Rattle.sand_model.proofs.Lists.{all_or_one, at_most_one}
 use Rattle.sand_model.proofs.Bounds.{at_most_sum_below, sites_limit, weight_bound}
-use Rattle.sand_model.proofs.Underway.{underway_start, underway_end, advances_on}
-use Rattle.sand_tiles.specs.declared.tile.Tile.{Tile}
-use Rattle.sand_tiles.specs.Places.{bit, number}
-use Rattle.sand_tiles.specs.Counts.{Count, counted}
-use Rattle.sand_tiles.proofs.Bits.{bit_le}
-use Rattle.sand_fronts.specs.Tiling.{tiles, tile_of, place_of, on_tiles}
-use Rattle.sand_fronts.specs.TileLists.{IsClear}
-use Rattle.sand_fronts.specs.declared.counts.Counts.{Counts}
-use Rattle.sand_fronts.specs.Waves.{tile_at, toppled, IsWave, IsWholeWave, AreAtRest, heights_before}
-use Rattle.sand_fronts.specs.WaveSizes.{IsOneWave}
-use Rattle.sand_fronts.specs.Counting.{over_wave}
-use Rattle.sand_fronts.specs.Boards.{counts_of, AreCounted}
-use Rattle.sand_fronts.specs.Drops.{heights_on, grown_on, AreOutside, AreQuiet}
 use Rattle.sand_fronts.proofs.OnTiles.{place_below, on_sum, on_below, on_each, height_low}
 use Rattle.sand_fronts.proofs.Ends.{wave_balance, wave_advances, four_again, one_wave, HasPassed, Leaves}
 use Rattle.sand_fronts.proofs.Sums.{sum_on_tiles, sum_below_most}

@@ -1,22 +1,6 @@
 -- The sets of the sites that a drop has toppled, and the list of the tiles whose sets are not empty.
-use Rattle.std.proofs.Common.{ℕ, ltb, ◌≡◌, ◌+◌, ◌<◌, ◌∙◌, arith, suc, List, [], ◌∷◌, ◌≤◌, inl, inr, length, get_or, refl, sym, ⊎_elim}
-use Rattle.std.proofs.lemmas.Bool.Decides.{nat_tests}
-use Rattle.std.specs.Prelude.{slice_index}
-use Rattle.std.proofs.lemmas.Grind.{get_or_default_zero}
-use Rattle.std.proofs.Math.ListN.{get_or-eq_default}
-use Rattle.std.proofs.lemmas.Bool.{cases_eq}
-use Rattle.sand_model.specs.Grid.{Grid, sites}
-use Rattle.sand_model.specs.Sand.{sum_below, occurrences}
-use Rattle.sand_model.specs.Lists.{one_if, Lists}
-use Rattle.sand_model.proofs.SumsBelow.{sum_below_same, one_at_other}
+use Rattle.sand_fronts.proofs.Common.{ℕ, ltb, ◌≡◌, ◌+◌, ◌<◌, ◌∙◌, arith, suc, List, [], ◌∷◌, ◌≤◌, inl, inr, length, get_or, refl, sym, ⊎_elim, nat_tests, slice_index, get_or_default_zero, get_or-eq_default, cases_eq, Grid, sites, sum_below, occurrences, one_if, Lists, sum_below_same, one_at_other, listed, read_below, bit, Count, counted, bit_none, tiles, on_tiles, grown_on, in_sets, AreMarked, has_mark}
 use Rattle.sand_model.proofs.Occurrences.{occurrences-cons}
-use Rattle.sand_model.proofs.Lists.{listed, read_below, read_passes}
-use Rattle.sand_tiles.specs.Places.{bit}
-use Rattle.sand_tiles.specs.Counts.{Count, counted}
-use Rattle.sand_tiles.proofs.Bits.{bit_none}
-use Rattle.sand_fronts.specs.Tiling.{tiles, on_tiles}
-use Rattle.sand_fronts.specs.Drops.{grown_on}
-use Rattle.sand_fronts.specs.Marking.{in_sets, AreMarked, has_mark}
 use Rattle.sand_fronts.proofs.Sums.{sum_on_tiles}
 use Rattle.sand_fronts.proofs.OnTiles.{on_each}
 use Rattle.sand_fronts.proofs.Counted.{over_none, AreIn, none_in}
@@ -48,13 +32,6 @@ pub tile_below : (ws list : List ℕ) (position k : ℕ) → Lists (length ws) (
     → k ≡ get_or list position 0 → k < length ws
 tile_below ws list position k lists less is = read_below (length ws) (has_mark ws) list position k lists less
     (is ∙ sym (get_or_default_zero list position k less))
-
-pub tile_marked : (ws list : List ℕ) (position k : ℕ) → Lists (length ws) (has_mark ws) list → position < length list
-    → k ≡ get_or list position 0 → 0 < get_or ws k 0
-tile_marked ws list position k lists less is =
-    let some = read_passes (length ws) (has_mark ws) list position k lists less
-    (is ∙ sym (get_or_default_zero list position k less)) in
-    grind (arith, nat_tests)
 
 turn_of : (xs : List ℕ) (i : ℕ) → 1 ≤ occurrences xs i → (t : ℕ) × (t < length xs) × (get_or xs t 0 ≡ i)
 turn_of [] i some = absurd (omega arith)

@@ -1,14 +1,10 @@
 -- The neighbours of a site, on the tiles. Rows and columns are counted with the border here: 16 rows above those of the
 -- grid, and 8 columns before them. So a step to a neighbour changes a row or a column by 1, in a tile or over its rim.
-use Rattle.std.proofs.Common.{ℕ, ◌⊎◌, inl, inr, ◌≡◌, ◌≢◌, ◌+◌, ◌-◌, ◌*◌, ◌/◌, ◌%◌, ◌<◌, ◌≤◌, refl, sym, ◌∙◌, ap, arith}
-use Rattle.std.proofs.lemmas.Bool.Decides.{nat_tests}
-use Rattle.std.proofs.lemmas.Nat.{div-mul-add, mod-mul-add, div-add-mod', mod_below}
-use Rattle.sand_model.specs.Grid.{Grid, sites, north, south, west, east}
-use Rattle.sand_model.specs.Sand.{value_at, flow}
+use Rattle.sand_fronts.proofs.Common.{ℕ, ◌⊎◌, inl, inr, ◌≡◌, ◌≢◌, ◌+◌, ◌-◌, ◌*◌, ◌/◌, ◌%◌, ◌<◌, ◌≤◌, refl, sym, ◌∙◌, ap, arith, nat_tests, div-mul-add, mod-mul-add, div-add-mod', mod_below, Grid, sites, value_at, flow, across, pitch, tile_flow, at_site}
+use Rattle.sand_model.specs.Grid.{north, south, west, east}
 use Rattle.sand_model.proofs.Neighbours.{flow_four, some_width}
 use Rattle.sand_tiles.specs.Places.{north as inner_north, south as inner_south, west as inner_west, east as inner_east}
-use Rattle.sand_fronts.specs.Tiling.{across, pitch, tile_of, place_of, over_north, over_south, over_west, over_east, to_west, to_east, shift_west, shift_east, tile_flow}
-use Rattle.sand_fronts.specs.Waves.{at_site}
+use Rattle.sand_fronts.specs.Tiling.{tile_of, place_of, over_north, over_south, over_west, over_east, to_west, to_east, shift_west, shift_east}
 
 abbrev pub tile : Grid → ℕ → ℕ → ℕ
 tile g y x = y / 8 * pitch g + x / 8

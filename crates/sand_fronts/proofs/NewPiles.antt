@@ -1,26 +1,11 @@
 -- A new pile on tiles.
-use Rattle.std.proofs.Common.{ℕ, List, [], length, replicate, get_or, count_by, is_none, ◌≡◌, ◌+◌, ◌*◌, ◌/◌, ◌%◌, ◌<◌, ◌≤◌, refl, sym, ◌∙◌, ap, subst, arith}
-use Rattle.std.specs.Prelude.{slice_index}
-use Rattle.std.proofs.Math.ListN.{get_or-eq_default}
-use Rattle.std.proofs.lemmas.Bool.{lt-ltb}
-use Rattle.std.proofs.lemmas.Nat.{div-mul-add, mod-mul-add}
-use Rattle.std.proofs.lemmas.List.{ext_get_or, get_or-replicate, length-replicate}
+use Rattle.sand_fronts.proofs.Common.{ℕ, List, [], length, replicate, get_or, count_by, is_none, ◌≡◌, ◌+◌, ◌*◌, ◌/◌, ◌%◌, ◌<◌, ◌≤◌, refl, sym, ◌∙◌, ap, subst, arith, slice_index, get_or-eq_default, lt-ltb, div-mul-add, mod-mul-add, ext_get_or, get_or-replicate, length-replicate, Grid, sites, places, Tile, had, Count, count_of, counted, IsCount, no_recent, bit_none, Sand, Counts, tile_of, place_of, row_at, column_at, on_tiles, IsInner, spilled_at, count_at, heights_on, counted_on, grown_on, AreQuiet, tiles_of, counts_of, tiled_view, IsTiledView}
 use Rattle.std.proofs.lemmas.List.FromFn.{get_or-map-range_with_len, length-map-range_with_len}
-use Rattle.sand_model.specs.Grid.{Grid, sites, places, missing, north, west, east, south}
+use Rattle.sand_model.specs.Grid.{missing, north, west, east, south}
 use Rattle.sand_model.proofs.Neighbours.{missing_is}
-use Rattle.sand_tiles.specs.declared.tile.Tile.{Tile}
-use Rattle.sand_tiles.specs.Places.{had}
 use Rattle.sand_tiles.specs.declared.counting.Recent.{Recent}
-use Rattle.sand_tiles.specs.Counts.{Count, count_of, counted, IsCount, no_recent}
-use Rattle.sand_tiles.proofs.Bits.{bit_none}
-use Rattle.sand_fronts.specs.declared.sand.Sand.{Sand}
-use Rattle.sand_fronts.specs.declared.counts.Counts.{Counts}
-use Rattle.sand_fronts.specs.Tiling.{tile_of, place_of, row_at, column_at, site_on, on_tiles}
-use Rattle.sand_fronts.specs.Filling.{IsInner}
-use Rattle.sand_fronts.specs.Counting.{spilled_at, count_at}
-use Rattle.sand_fronts.specs.Drops.{heights_on, counted_on, grown_on, AreQuiet}
-use Rattle.sand_fronts.specs.Boards.{tiles_of, counts_of}
-use Rattle.sand_fronts.specs.TiledPiles.{tiled_view, by_site, IsTiledView}
+use Rattle.sand_fronts.specs.Tiling.{site_on}
+use Rattle.sand_fronts.specs.TiledPiles.{by_site}
 use Rattle.sand_fronts.proofs.Filled.{entry_each, inner_site}
 use Rattle.sand_fronts.proofs.OnTiles.{place_below, at_on, on_site, on_below, on_sum}
 

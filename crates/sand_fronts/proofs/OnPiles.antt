@@ -1,28 +1,9 @@
 -- The result of a drop on a pile on tiles, as its contracts see it.
-use Rattle.std.proofs.Common.{ℕ, List, length, ltb, ◌≡◌, ◌+◌, ◌-◌, ◌*◌, ◌<◌, ◌≤◌, refl, sym, ◌∙◌, ap, subst, arith}
-use Rattle.std.specs.Prelude.{slice_index}
-use Rattle.std.proofs.lemmas.Bool.Decides.{nat_tests}
-use Rattle.sand_model.specs.Grid.{Grid, sites, missing}
-use Rattle.sand_model.specs.Sand.{one_at}
-use Rattle.sand_model.specs.Lists.{one_if}
-use Rattle.sand_model.proofs.Sandpile.{settled_same}
-use Rattle.sand_model.proofs.SumsBelow.{sum_below_same}
-use Rattle.sand_tiles.specs.Places.{height}
-use Rattle.sand_tiles.specs.Counts.{counted}
+use Rattle.sand_fronts.proofs.Common.{ℕ, List, length, ltb, ◌≡◌, ◌+◌, ◌-◌, ◌*◌, ◌<◌, ◌≤◌, refl, sym, ◌∙◌, ap, subst, arith, slice_index, nat_tests, Grid, sites, missing, one_at, one_if, settled_same, sum_below_same, height, counted, Sand, Counts, tile_of, place_of, AreToppled, AreSites, AreAllOpen, HasWaves, heights_on, counted_on, free_of, tiles_of, counts_of, marks_of, grown, IsBoard, IsSand, AreCounts, CountsSites, HasSettled, Spot, IsFirstOfEight, TiledView, IsTiledPile, HasDroppedOnTiles, tiled_view, by_site, toppled_between}
 use Rattle.sand_fronts.specs.declared.board.Board.{Board}
-use Rattle.sand_fronts.specs.declared.sand.Sand.{Sand}
-use Rattle.sand_fronts.specs.declared.counts.Counts.{Counts}
 use Rattle.sand_fronts.specs.declared.avalanche.Avalanche.{Avalanche}
-use Rattle.sand_fronts.specs.Tiling.{tile_of, place_of, on_tiles}
-use Rattle.sand_fronts.specs.Marking.{AreToppled, AreSites}
-use Rattle.sand_fronts.specs.Waves.{AreAllOpen}
-use Rattle.sand_fronts.specs.WaveSizes.{HasWaves}
-use Rattle.sand_fronts.specs.Drops.{heights_on, counted_on}
+use Rattle.sand_fronts.specs.Tiling.{on_tiles}
 use Rattle.sand_fronts.specs.Avalanches.{IsAvalanche, has_toppled}
-use Rattle.sand_fronts.specs.Boards.{free_of, tiles_of, counts_of, marks_of, grown, IsBoard, IsSand, AreCounts, CountsSites, HasSettled}
-use Rattle.sand_fronts.specs.declared.reach.Spot.{Spot}
-use Rattle.sand_fronts.specs.Reading.{IsFirstOfEight}
-use Rattle.sand_fronts.specs.TiledPiles.{TiledView, IsTiledPile, HasDropped, tiled_view, by_site, toppled_between}
 use Rattle.sand_fronts.proofs.OnTiles.{height_low, place_below}
 use Rattle.sand_fronts.proofs.Eights.{eight_there, first_inside}
 use Rattle.sand_fronts.proofs.WaveSizes.{has_same}
@@ -62,15 +43,15 @@ sites_toppled g v words toppled m p low is = let marked = toppled m p low in gri
 
 pub dropped : {g i : Grid} {site : ℕ} (s : Sand) {t : Sand} {c d : Counts} {v : TiledView} {a : Avalanche}
     → tiled_view g s c ≡ v → i ≡ g → HasSettled g (λ j. heights_on g (tiles_of s) j + one_at site j) t c d
-    → IsAvalanche g site (grown g c d) a → HasDropped v site a (tiled_view i t d)
+    → IsAvalanche g site (grown g c d) a → HasDroppedOnTiles v site a (tiled_view i t d)
 dropped {g} {i} {site} s {t} {c} {d} {v} {a} view shape has is =
     let old = heights_on g (tiles_of s) in let new = heights_on g (tiles_of t) in
     let before = counted_on g (counts_of c) in let after = counted_on g (counts_of d) in
     let moved = toppled_between (tiled_view g s c) (tiled_view g t d) in
     let between : (j : ℕ) → j < sites g → grown g c d j ≡ moved j =
     λ j l. omega (arith, by_site_at g before j l, by_site_at g after j l) in
-    subst (λ x. HasDropped x site a (tiled_view i t d)) view
-    (subst (λ x. HasDropped (tiled_view g s c) site a (tiled_view x t d)) (sym shape) (record {
+    subst (λ x. HasDroppedOnTiles x site a (tiled_view i t d)) view
+    (subst (λ x. HasDroppedOnTiles (tiled_view g s c) site a (tiled_view x t d)) (sym shape) (record {
       grid = refl;
       by_site = by_site_view g t d;
       never_falls = λ j. by_site_le g before after j

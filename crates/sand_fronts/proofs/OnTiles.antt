@@ -1,16 +1,7 @@
 -- Numbers by site, read by tile and place.
-use Rattle.std.proofs.Common.{ℕ, true, false, cond, ◌≡◌, ◌+◌, ◌*◌, ◌/◌, ◌%◌, ◌<◌, ◌≤◌, refl, sym, ◌∙◌, ap, subst, arith, ⊎_elim}
-use Rattle.std.proofs.lemmas.Bool.{cases_Bool}
-use Rattle.std.proofs.lemmas.Bool.Decides.{nat_tests}
-use Rattle.std.proofs.lemmas.Nat.{div-mul-add, mod-mul-add, div-add-mod', mul-add-lt, div_below}
-use Rattle.sand_model.specs.Grid.{Grid, sites, column}
-use Rattle.sand_model.specs.Sand.{one_at}
-use Rattle.sand_fronts.specs.Tiling.{pitch, tile_of, place_of, row_at, column_at, is_site, site_on, on_tiles}
-use Rattle.sand_fronts.specs.Waves.{at_site}
+use Rattle.sand_fronts.proofs.Common.{ℕ, true, false, cond, ◌≡◌, ◌+◌, ◌*◌, ◌/◌, ◌%◌, ◌<◌, ◌≤◌, refl, sym, ◌∙◌, ap, subst, arith, ⊎_elim, cases_Bool, nat_tests, div-mul-add, mod-mul-add, div-add-mod', mul-add-lt, div_below, Grid, sites, column, one_at, pitch, row_at, column_at, at_site, bit_le, Tile, height}
+use Rattle.sand_fronts.specs.Tiling.{tile_of, place_of, is_site, site_on, on_tiles}
 use Rattle.sand_fronts.proofs.NeighboursOnTiles.{tile, place, IsBlank, parts_of}
-use Rattle.sand_tiles.proofs.Bits.{bit_le}
-use Rattle.sand_tiles.specs.declared.tile.Tile.{Tile}
-use Rattle.sand_tiles.specs.Places.{height}
 
 pub height_low : (t : Tile) (p : ℕ) → height t p ≤ 3
 height_low t p = let a = bit_le t.low p in let b = bit_le t.high p in omega arith
@@ -39,14 +30,24 @@ back_again g j inside =
     (grind (arith, nat_tests), ap (λ t. t * w + column_at g k p) row_is ∙ omega arith)
 
 -- a place that is a site is behind the border and in the grid
-pub in_grid : (g : Grid) (k p : ℕ) → is_site g k p ≡ true
-    → (2 ≤ k / pitch g) × (1 ≤ k % pitch g) × (row_at g k p < g.height) × (column_at g k p < g.width)
+pub record IsInGrid (g : Grid) (k p : ℕ) : Type 0 where
+  pub below : 2 ≤ k / pitch g
+  pub behind : 1 ≤ k % pitch g
+  pub high : row_at g k p < g.height
+  pub wide : column_at g k p < g.width
+
+pub in_grid : (g : Grid) (k p : ℕ) → is_site g k p ≡ true → IsInGrid g k p
 unfolding is_site
-in_grid g k p is = grind (arith, nat_tests)
+in_grid g k p is = record {
+  below = grind (arith, nat_tests);
+  behind = grind (arith, nat_tests);
+  high = grind (arith, nat_tests);
+  wide = grind (arith, nat_tests);
+}
 
 pub column_there : (g : Grid) (k p : ℕ) → is_site g k p ≡ true → column g (site_on g k p) ≡ column_at g k p
 unfolding site_on
-column_there g k p is = mod-mul-add (row_at g k p) g.width (column_at g k p) (in_grid g k p is).3
+column_there g k p is = mod-mul-add (row_at g k p) g.width (column_at g k p) (in_grid g k p is).wide
 
 -- from a place that is a site to the site, and back
 pub there_again : (g : Grid) (k p : ℕ) → p < 64 → is_site g k p ≡ true
@@ -58,11 +59,11 @@ there_again g k p low is =
     let parts = div-add-mod' k (pitch g) in
     let r = row_at g k p in
     let c = column_at g k p in
-    let rd : (r * w + c) / w ≡ r = div-mul-add r w c bounds.3 in
+    let rd : (r * w + c) / w ≡ r = div-mul-add r w c bounds.wide in
     let cd = column_there g k p is in
     let r8 : r / 8 + 2 ≡ k / pitch g = omega arith in
     let c8 : c / 8 + 1 ≡ k % pitch g = omega arith in (
-      mul-add-lt r w c g.height bounds.2 bounds.3,
+      mul-add-lt r w c g.height bounds.high bounds.wide,
       rw (rd, cd) (ap (λ t. t * pitch g + (c / 8 + 1)) r8 ∙ omega arith),
       rw (rd, cd) (omega arith),
     )
@@ -122,12 +123,6 @@ on_sum g u t v m p low sums = on_each g m p (λ (r : (ℕ → ℕ) → ℕ). r v
 pub on_below : (g : Grid) (v : ℕ → ℕ) (m p most : ℕ) → p < 64 → ((j : ℕ) → j < sites g → v j ≤ most)
     → on_tiles g v m p ≤ most
 on_below g v m p most low few = on_each g m p (λ (r : (ℕ → ℕ) → ℕ). r v ≤ most) low few (omega arith)
-
--- sites of one tile are equal if their places are
-pub same_site : (g : Grid) (i j : ℕ) → i < sites g → j < sites g → tile_of g j ≡ tile_of g i
-    → one_at (place_of g i) (place_of g j) ≡ one_at i j
-same_site g i j li lj tile =
-    let b = (back_again g i li).1 in let c = (back_again g j lj).1 in grind (arith, nat_tests)
 
 -- a site is at its own place alone
 pub own_place : (g : Grid) (s m p : ℕ) → p < 64 → s < sites g

@@ -1,21 +1,5 @@
 -- A grain added at a site of a stable pile on tiles.
-use Rattle.std.proofs.Common.{ℕ, eqb, List, length, get_or, ◌≡◌, ◌≢◌, ◌+◌, ◌-◌, ◌%◌, ◌<◌, ◌≤◌, refl, sym, ◌∙◌, ap, arith}
-use Rattle.std.specs.Prelude.{bit_xor, slice_index}
-use Rattle.std.proofs.Math.ListN.{set}
-use Rattle.std.proofs.lemmas.Bool.{cases_eq}
-use Rattle.std.proofs.lemmas.Bool.Decides.{nat_tests}
-use Rattle.std.proofs.lemmas.List.{get_or_read, get_or-set_other, length-set}
-use Rattle.sand_model.specs.Grid.{Grid, sites}
-use Rattle.sand_model.specs.Sand.{IsSettled, one_at}
-use Rattle.sand_model.proofs.Sandpile.{settled_same}
-use Rattle.sand_model.proofs.Underway.{underway_start, underway_end}
-use Rattle.sand_model.proofs.Lists.{at_most_one}
-use Rattle.sand_tiles.specs.declared.tile.Tile.{Tile}
-use Rattle.sand_tiles.specs.Places.{bit, Receives}
-use Rattle.sand_tiles.proofs.Bits.{bit_le, half, both_le}
-use Rattle.sand_fronts.specs.Tiling.{tile_of, place_of, on_tiles}
-use Rattle.sand_fronts.specs.Waves.{tile_at, only, AreOpen, AreAllOpen, Gains, heights_before}
-use Rattle.sand_fronts.specs.Drops.{heights_on, AreQuiet}
+use Rattle.sand_fronts.proofs.Common.{ℕ, eqb, List, length, get_or, ◌≡◌, ◌≢◌, ◌+◌, ◌-◌, ◌%◌, ◌<◌, ◌≤◌, refl, sym, ◌∙◌, ap, arith, bit_xor, slice_index, set, cases_eq, nat_tests, get_or_read, get_or-set_other, length-set, Grid, sites, IsSettled, one_at, settled_same, underway_start, underway_end, at_most_one, Tile, bit, Receives, bit_le, half, both_le, tile_of, place_of, on_tiles, tile_at, only, AreOpen, AreAllOpen, Gains, heights_before, heights_on, AreQuiet}
 use Rattle.sand_fronts.proofs.OnTiles.{place_below, at_on, on_sum, height_low}
 use Rattle.sand_fronts.proofs.OneSite.{IsPlace, placed}
 use Rattle.sand_fronts.proofs.Waves.{only_same, only_other}
@@ -43,6 +27,7 @@ module _ {g : Grid} {site : ℕ} {ts : List Tile} {here grain free : ℕ} {was t
   gains = gains_one (λ m. free) ts here t grain gets.inside
       (rw (tile_read ts here was gets.inside gets.read) at gets.receives)
 
+  -- the planes have the heights modulo 4
   grain_heights : (j : ℕ) → j < sites g
       → heights_on g (tile_at (set ts here t)) j ≡ (heights_on g (tile_at ts) j + one_at site j) % 4
   grain_heights j l =

@@ -1,13 +1,6 @@
 -- A site's place on the tiles.
-use Rattle.std.proofs.Common.{ℕ, List, length, get_or, ◌≡◌, ◌*◌, ◌<◌, ◌∙◌, sym, arith, refl}
-use Rattle.std.proofs.lemmas.Bool.Decides.{nat_tests}
-use Rattle.sand_model.specs.Grid.{Grid, sites}
-use Rattle.sand_model.specs.Sand.{one_at}
-use Rattle.sand_tiles.specs.declared.tile.Tile.{Tile}
-use Rattle.sand_tiles.specs.Places.{bit, height}
-use Rattle.sand_fronts.specs.Tiling.{tile_of, place_of, on_tiles}
-use Rattle.sand_fronts.specs.Drops.{heights_on}
-use Rattle.sand_fronts.specs.Waves.{only, tile_at}
+use Rattle.sand_fronts.proofs.Common.{ℕ, List, length, get_or, ◌≡◌, ◌*◌, ◌<◌, ◌∙◌, sym, arith, refl, nat_tests, Grid, sites, one_at, Tile, bit, height, tile_of, place_of, on_tiles, heights_on, tile_at}
+use Rattle.sand_fronts.specs.Waves.{only}
 use Rattle.sand_fronts.proofs.Gained.{tile_read}
 use Rattle.sand_fronts.proofs.OnTiles.{own_place, on_each}
 use Rattle.sand_fronts.proofs.Waves.{only_same}

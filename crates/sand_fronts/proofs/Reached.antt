@@ -1,23 +1,10 @@
 -- How far a drop has reached.
-use Rattle.std.proofs.Common.{ℕ, true, cond, eqb, ltb, ◌≡◌, ◌≢◌, ◌⊎◌, ◌+◌, ◌*◌, ◌^◌, ◌<◌, ◌≤◌, max, ◌∙◌, ap, arith, ⊎_elim}
-use Rattle.std.specs.Prelude.{bit_xor}
-use Rattle.std.specs.Int.{trailing_zeros}
-use Rattle.std.proofs.Common.{w64}
-use Rattle.std.proofs.lemmas.Nat.Bits.{bit_at-trailing_zeros}
-use Rattle.std.proofs.lemmas.Bool.{cases_lt}
-use Rattle.std.proofs.lemmas.Bool.Decides.{nat_tests}
-use Rattle.std.proofs.lemmas.Nat.{div-mul-add, mod-mul-add, mod_below, div_below}
-use Rattle.sand_model.specs.Grid.{Grid, IsGrid, sites, distance}
-use Rattle.sand_model.specs.Sand.{sum_below, one_at}
-use Rattle.sand_model.specs.Lists.{one_if}
-use Rattle.sand_model.proofs.SumsBelow.{sum_below_same, sum_below-add, sum_below-one_at}
+use Rattle.sand_fronts.proofs.Common.{ℕ, true, cond, eqb, ltb, ◌≡◌, ◌≢◌, ◌⊎◌, ◌+◌, ◌*◌, ◌^◌, ◌<◌, ◌≤◌, max, ◌∙◌, ap, arith, ⊎_elim, bit_xor, trailing_zeros, w64, bit_at-trailing_zeros, cases_lt, nat_tests, div-mul-add, mod-mul-add, mod_below, div_below, Grid, IsGrid, sites, sum_below, one_at, one_if, sum_below_same, sum_below-add, sum_below-one_at, bit_le, bit_none, half, both_le, Spot, AreSites, AreToppled, tile_of, place_of, row_at, column_at, is_site}
+use Rattle.sand_model.specs.Grid.{distance}
 use Rattle.sand_tiles.specs.Places.{bit}
-use Rattle.sand_tiles.proofs.Bits.{bit_le, bit_none, half, both_le}
-use Rattle.sand_fronts.specs.declared.reach.Spot.{Spot}
-use Rattle.sand_fronts.specs.Reaching.{distance_within, spot_of, corner_of, IsReachedFrom, IsReachedIn}
+use Rattle.sand_fronts.specs.Reaching.{distance_within, spot_of, corner_of, HasPlaceAt, IsReachedFrom, IsReachedIn}
 use Rattle.sand_fronts.specs.Avalanches.{IsReached}
-use Rattle.sand_fronts.specs.Marking.{AreSites, AreToppled}
-use Rattle.sand_fronts.specs.Tiling.{tile_of, place_of, row_at, column_at, is_site, site_on}
+use Rattle.sand_fronts.specs.Tiling.{site_on}
 use Rattle.sand_fronts.proofs.OnTiles.{place_below, back_again, there_again, in_grid, at_on, on_site}
 
 -- ---- place by place
@@ -58,7 +45,7 @@ pub record Reads (g : Grid) (s corner : Spot) (set rest reach far : ℕ) : Type 
   pub within_set : (p : ℕ) → p < 64 → bit rest p ≤ bit set p
   pub grows : reach ≤ far
   pub done : (p : ℕ) → p < 64 → bit set p ≡ 1 → bit rest p ≡ 0 → distance_within g s corner p ≤ far
-  pub reached : reach < far → (p : ℕ) × (p < 64) × (bit set p ≡ 1) × (distance_within g s corner p ≡ far)
+  pub reached : reach < far → HasPlaceAt g s corner set far
 
 pub reads_more : {g : Grid} {s corner : Spot} {set rest next reach far place : ℕ} (d now : ℕ)
     → Reads g s corner set rest reach far → IsTaken rest next place
@@ -68,8 +55,10 @@ reads_more {set = set} {far = far} {place = place} d now before gone there most 
   grows = omega (arith, before.grows);
   done = λ p low has none. let a = before.done p low has in grind (arith, nat_tests);
   reached = λ more. ⊎_elim
-      (λ (farther : far < d). (place, gone.inside, omega (arith, bit_le set place), omega arith))
-      (λ (not : d ≤ far). let old = before.reached (omega arith) in (old.0, old.1, old.2, omega arith))
+      (λ (farther : far < d).
+      record { place = place; low = gone.inside; is = omega (arith, bit_le set place); there = omega arith })
+      (λ (not : d ≤ far). let old = before.reached (omega arith) in
+      record { place = old.place; low = old.low; is = old.is; there = omega arith })
       (cases_lt far d);
 }
 
@@ -79,8 +68,7 @@ reads_more {set = set} {far = far} {place = place} d now before gone there most 
 pub record SetsRead (g : Grid) (s : Spot) (words rest : ℕ → ℕ) (reach : ℕ) : Type 0 where
   pub left : (m : ℕ) → (rest m ≡ 0) ⊎ (rest m ≡ words m)
   pub within : (m p : ℕ) → rest m ≡ 0 → p < 64 → bit (words m) p ≡ 1 → distance_within g s (corner_of g m) p ≤ reach
-  pub reached : 0 < reach
-      → (m : ℕ) × (p : ℕ) × (p < 64) × (bit (words m) p ≡ 1) × (distance_within g s (corner_of g m) p ≡ reach)
+  pub reached : 0 < reach → (m : ℕ) × HasPlaceAt g s (corner_of g m) (words m) reach
 
 pub sets_more : {g : Grid} {s : Spot} {words rest : ℕ → ℕ} (next : ℕ → ℕ) (k : ℕ) {set reach far : ℕ}
     → SetsRead g s words rest reach → IsReachedFrom g s (corner_of g k) set reach far → set ≡ rest k
@@ -98,9 +86,11 @@ sets_more {g} {s} {words} {rest} next k {set} {reach} {far} before one is each =
           (λ (farther : reach < far).
           let now = one.reached farther in
           let l = before.left k in
-          let z = bit_none now.0 in
-          (k, now.0, now.1, grind arith, now.3))
-          (λ (not : far ≤ reach). let old = before.reached (omega arith) in (old.0, old.1, old.2, old.3, omega arith))
+          let z = bit_none now.place in
+          let has = now.is in
+          (k, record { place = now.place; low = now.low; is = grind arith; there = now.there }))
+          (λ (not : far ≤ reach). let (m, old) = before.reached (omega arith) in
+          (m, record { place = old.place; low = old.low; is = old.is; there = omega arith }))
           (cases_lt reach far);
     }
 
@@ -112,7 +102,7 @@ unfolding distance site_on
 distance_on g site k p is =
     let y = row_at g k p in
     let x = column_at g k p in
-    let wide = (in_grid g k p is).3 in
+    let wide = (in_grid g k p is).wide in
     rw (mod-mul-add y g.width x wide, div-mul-add y g.width x wide)
 
 -- a place is in the sets if and only if its site has toppled, so what is within reach of them is so for the sites
@@ -131,23 +121,35 @@ all_within g site v {words} each in_sets j l some =
       ap (distance g site) back.1,
     )
 
--- the site that is reached
+-- a site that is reached
+record Farthest (g : Grid) (site : ℕ) (words : ℕ → ℕ) (reach : ℕ) : Type 0 where
+  tile : ℕ
+  here : HasPlaceAt g (spot_of g site) (corner_of g tile) (words tile) reach
+  is : is_site g tile here.place ≡ true
+  inside : site_on g tile here.place < sites g
+  distant : distance g site (site_on g tile here.place) ≡ reach
+
 farthest_site : (g : Grid) (site : ℕ) {words : ℕ → ℕ} {reach : ℕ} → AreSites g words
-    → IsReachedIn g (spot_of g site) words reach → 0 < reach → (m : ℕ) × (p : ℕ) × (p < 64) × (bit (words m) p ≡ 1)
-    × (is_site g m p ≡ true) × (site_on g m p < sites g) × (distance g site (site_on g m p) ≡ reach)
-farthest_site g site at in_sets far =
-    let one = in_sets.reached far in
-    let is = at one.0 one.1 one.2 one.3 in
-    let there = there_again g one.0 one.1 one.2 is in
-    (one.0, one.1, one.2, one.3, is, there.0, distance_on g site one.0 one.1 is ∙ one.4)
+    → IsReachedIn g (spot_of g site) words reach → 0 < reach → Farthest g site words reach
+farthest_site g site are in_sets far =
+    let (m, p) = in_sets.reached far in
+    let is = are m p.place p.low p.is in
+    record {
+      tile = m;
+      here = p;
+      is = is;
+      inside = (there_again g m p.place p.low is).0;
+      distant = distance_on g site m p.place is ∙ p.there;
+    }
 
 pub some_reached : (g : Grid) (site : ℕ) (v : ℕ → ℕ) {words : ℕ → ℕ} {reach : ℕ} → AreSites g words
     → AreToppled g v words → IsReachedIn g (spot_of g site) words reach → 0 < reach → IsReached g site v reach
-some_reached g site v at each in_sets far =
-    let one = farthest_site g site at in_sets far in
-    let marked = each one.0 one.1 one.2 in
-    let own = on_site g (λ i. one_if (ltb 0 (v i))) one.0 one.1 one.4 in
-    (site_on g one.0 one.1, one.5, grind (arith, nat_tests), one.6)
+some_reached g site v are each in_sets far =
+    let one = farthest_site g site are in_sets far in
+    let has = one.here.is in
+    let marked = each one.tile one.here.place one.here.low in
+    let own = on_site g (λ i. one_if (ltb 0 (v i))) one.tile one.here.place one.is in
+    (site_on g one.tile one.here.place, one.inside, grind (arith, nat_tests), one.distant)
 
 -- ---- the reach fits into 32 bits
 
@@ -164,6 +166,6 @@ pub small_reach : (g : Grid) (site : ℕ) {words : ℕ → ℕ} {reach : ℕ} �
     → IsReachedIn g (spot_of g site) words reach → reach < 2 ^ 32
 small_reach g site {words} {reach} sides inside at in_sets = ⊎_elim
     (λ (far : 0 < reach). let one = farthest_site g site at in_sets far in
-    omega (arith, near g site (site_on g one.0 one.1) sides inside one.5))
+    omega (arith, near g site (site_on g one.tile one.here.place) sides inside one.inside))
     (λ (none : reach ≤ 0). omega arith)
     (cases_lt 0 reach)

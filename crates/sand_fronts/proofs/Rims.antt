@@ -1,15 +1,7 @@
 -- The grains that leave a tile over its rim, by the tile that they leave and by the tile that they reach.
-use Rattle.std.proofs.Common.{ℕ, cond, eqb, ◌≡◌, ◌+◌, ◌-◌, ◌*◌, ◌/◌, ◌%◌, ◌^◌, ◌<◌, ◌≤◌, refl, ◌∙◌, ap, arith}
-use Rattle.std.specs.Prelude.{bit_and}
-use Rattle.std.specs.Int.{bit_at}
-use Rattle.std.proofs.lemmas.Bool.{agree_below_at}
-use Rattle.std.proofs.lemmas.Bool.Decides.{nat_tests}
-use Rattle.std.proofs.lemmas.Nat.{mod-mul-add, div-add-mod', mod_below}
-use Rattle.std.proofs.lemmas.Nat.Bits.{bit_at-lt}
-use Rattle.sand_model.specs.Grid.{Grid}
+use Rattle.sand_fronts.proofs.Common.{ℕ, cond, eqb, ◌≡◌, ◌+◌, ◌-◌, ◌*◌, ◌/◌, ◌%◌, ◌^◌, ◌<◌, ◌≤◌, refl, ◌∙◌, ap, arith, bit_and, bit_at, agree_below_at, nat_tests, mod-mul-add, div-add-mod', mod_below, bit_at-lt, Grid, bit_shr, bit_shl, bit_shl_low, bit_above, masked_out, masked_in, across, pitch}
 use Rattle.sand_tiles.specs.Places.{bit}
-use Rattle.sand_tiles.proofs.Moves.{bit_shr, bit_shl, bit_shl_low, bit_above, masked_out, masked_in}
-use Rattle.sand_fronts.specs.Tiling.{across, pitch, over_north, over_south, over_west, over_east, to_west, to_east, shift_west, shift_east}
+use Rattle.sand_fronts.specs.Tiling.{over_north, over_south, over_west, over_east, to_west, to_east, shift_west, shift_east}
 use Rattle.sand_fronts.specs.Waves.{only}
 
 -- ---- the words that are handed over

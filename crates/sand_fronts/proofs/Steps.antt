@@ -1,15 +1,7 @@
 -- A step, from the tiles to the grid.
-use Rattle.std.proofs.Common.{ℕ, ◌≡◌, ◌+◌, ◌/◌, ◌%◌, ◌^◌, ◌<◌, ◌≤◌, ◌∙◌, sym, ap, subst, arith, refl}
-use Rattle.std.proofs.lemmas.Nat.{mod-mul-add}
-use Rattle.sand_model.specs.Grid.{Grid, sites}
-use Rattle.sand_model.specs.Sand.{flow}
-use Rattle.sand_model.proofs.Flow.{flow_same, flow-add}
-use Rattle.sand_tiles.specs.declared.tile.Tile.{Tile}
-use Rattle.sand_tiles.specs.Places.{bit, height, had, around, Visits}
+use Rattle.sand_fronts.proofs.Common.{ℕ, ◌≡◌, ◌+◌, ◌/◌, ◌%◌, ◌^◌, ◌<◌, ◌≤◌, ◌∙◌, sym, ap, subst, arith, refl, mod-mul-add, Grid, sites, flow, flow_same, flow-add, Tile, bit, height, had, around, Visits, Beside, pitch, place_of, at_site, toppled, only, put, over_rim, IsBeside}
 use Rattle.sand_tiles.proofs.Around.{around_none}
-use Rattle.sand_fronts.specs.declared.sides.Beside.{Beside}
-use Rattle.sand_fronts.specs.Tiling.{pitch, tile_of, place_of}
-use Rattle.sand_fronts.specs.Waves.{at_site, toppled, only, put, over_rim, IsBeside}
+use Rattle.sand_fronts.specs.Tiling.{tile_of}
 use Rattle.sand_fronts.proofs.NeighboursOnTiles.{tile, place, IsBlank, parts_of, flow_on_tiles}
 use Rattle.sand_fronts.proofs.OnTiles.{place_below, on_tiles_blank, on_sum, height_low}
 use Rattle.sand_fronts.proofs.Waves.{only_same, only_other, IsStart, Starts, IsUnderWay, free_at, newly, needed_next}

@@ -1,9 +1,5 @@
 -- A sum over all places of all tiles is the sum over all sites.
-use Rattle.std.proofs.Common.{ℕ, ◌≡◌, ◌*◌, ◌<◌, ◌≤◌, sym, ◌∙◌, ap, arith}
-use Rattle.sand_model.specs.Grid.{Grid, sites}
-use Rattle.sand_model.specs.Sand.{sum_below, one_at}
-use Rattle.sand_model.proofs.SumsBelow.{sum_below_same, sum_below_le, sum_below_none, sum_below_swap, sum_below-scale, sum_below-ones, sum_below-one_at, one_at_comm}
-use Rattle.sand_fronts.specs.Tiling.{tiles, tile_of, place_of, on_tiles}
+use Rattle.sand_fronts.proofs.Common.{ℕ, ◌≡◌, ◌*◌, ◌<◌, ◌≤◌, sym, ◌∙◌, ap, arith, Grid, sites, sum_below, one_at, sum_below_same, sum_below_le, sum_below_none, sum_below_swap, sum_below-scale, sum_below-ones, sum_below-one_at, one_at_comm, tiles, tile_of, place_of, on_tiles}
 use Rattle.sand_fronts.proofs.Boards.{tile_inside}
 use Rattle.sand_fronts.proofs.OnTiles.{place_below, on_each, own_place}
 
@@ -16,6 +12,7 @@ sum_below_most n most f few =
 abbrev here : Grid → (ℕ → ℕ) → ℕ → ℕ → ℕ → ℕ
 here g v j k p = v j * one_at (tile_of g j) k * one_at (place_of g j) p
 
+-- of all places, one is of site j
 one_place : (g : Grid) (v : ℕ → ℕ) (n j : ℕ) → tile_of g j < n
     → sum_below n (λ k. sum_below 64 (λ p. here g v j k p)) ≡ v j
 one_place g v n j l =
@@ -23,6 +20,7 @@ one_place g v n j l =
     (λ k m. sum_below-one_at 64 (place_of g j) (λ p. v j * one_at (tile_of g j) k) (place_below g j))
     ∙ sum_below-one_at n (tile_of g j) (λ k. v j) l
 
+-- of all sites, a place has at most one, whose number it has
 one_site : (g : Grid) (v : ℕ → ℕ) (k p : ℕ) → p < 64 → sum_below (sites g) (λ j. here g v j k p) ≡ on_tiles g v k p
 one_site g v k p low =
     sum_below_same (sites g) (λ j. here g v j k p) (λ j. v j * on_tiles g (one_at j) k p)

@@ -1,15 +1,5 @@
 -- Tiles that join a list when places in them become due.
-use Rattle.std.proofs.Common.{ℕ, cond, eqb, not, ◌&&◌, List, [], ◌∷◌, ◌++◌, ◌≡◌, ◌+◌, ◌^◌, ◌<◌, length, ◌∙◌, arith}
-use Rattle.std.proofs.Math.ListN.{set}
-use Rattle.std.proofs.lemmas.Bool.Decides.{nat_tests}
-use Rattle.std.proofs.lemmas.Grind.{common_steps}
-use Rattle.sand_model.specs.IndexLists.{ListView, Joins}
-use Rattle.sand_model.proofs.IndexLists.{joins_if, joins_more}
-use Rattle.sand_tiles.specs.declared.tile.Tile.{Tile}
-use Rattle.sand_fronts.specs.TileLists.{waits, but}
-use Rattle.sand_fronts.specs.Waves.{tile_at}
-use Rattle.sand_fronts.specs.declared.sand.Sand.{Sand}
-use Rattle.sand_fronts.specs.Boards.{Gets}
+use Rattle.sand_fronts.proofs.Common.{ℕ, cond, eqb, not, ◌&&◌, List, [], ◌∷◌, ◌++◌, ◌≡◌, ◌+◌, ◌^◌, ◌<◌, length, ◌∙◌, arith, set, nat_tests, common_steps, ListView, Joins, joins_if, joins_more, Tile, waits, but, tile_at, Sand, Gets}
 
 -- a tile whose places become due joins the list if it did not wait before
 pub joins_one : (ts : List Tile) (k : ℕ) (x t : Tile) (l m : ListView) → k < length ts

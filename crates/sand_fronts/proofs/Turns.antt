@@ -1,27 +1,7 @@
 -- The turns of a wave: each waiting tile is visited.
-use Rattle.std.proofs.Common.{ℕ, Bool, true, eqb, ltb, cond, inl, inr, ◌⊎◌, List, [], ◌∷◌, ◌≡◌, ◌≢◌, ◌+◌, ◌-◌, ◌*◌, ◌%◌, ◌^◌, ◌<◌, ◌≤◌, length, drop, get_or, add-one, drop-cons, refl, sym, ◌∙◌, ap, arith, ⊎_elim}
-use Rattle.std.specs.Int.{w64, trailing_zeros}
-use Rattle.std.proofs.lemmas.Bool.{ltb-true, ltb-false, eq-eqb, ne_eqb, and_right}
-use Rattle.std.proofs.lemmas.Bool.Decides.{nat_tests}
-use Rattle.std.proofs.lemmas.Grind.{common_steps}
-use Rattle.std.proofs.Math.ListN.{set}
-use Rattle.std.proofs.lemmas.List.{length-drop, get_or-set_same, get_or-set_other}
-use Rattle.sand_model.specs.Grid.{Grid, sites}
-use Rattle.sand_model.specs.Sand.{one_at, topplings}
-use Rattle.sand_model.specs.Lists.{Lists, one_if}
-use Rattle.sand_model.specs.IndexLists.{ListView, Joins}
-use Rattle.sand_model.proofs.IndexLists.{longer, kept_before, waiting_from}
-use Rattle.sand_model.proofs.Lists.{lists_from, lists_length, none_passes, front_passes}
-use Rattle.sand_model.proofs.SumsBelow.{sum_below_same, sum_below-add, one_at_same, one_at_other}
+use Rattle.sand_fronts.proofs.Common.{ℕ, Bool, true, eqb, ltb, cond, inl, inr, ◌⊎◌, List, [], ◌∷◌, ◌≡◌, ◌≢◌, ◌+◌, ◌-◌, ◌*◌, ◌%◌, ◌^◌, ◌<◌, ◌≤◌, length, drop, get_or, add-one, drop-cons, refl, sym, ◌∙◌, ap, arith, ⊎_elim, trailing_zeros, ltb-true, ltb-false, eq-eqb, ne_eqb, and_right, nat_tests, common_steps, set, length-drop, get_or-set_same, get_or-set_other, Grid, sites, one_at, topplings, Lists, one_if, ListView, Joins, longer, kept_before, waiting_from, lists_from, lists_length, none_passes, front_passes, sum_below_same, sum_below-add, one_at_same, one_at_other, Tile, bit, IsReady, Visits, bit_le, bit_none, cut, Beside, tiles, tile_of, place_of, site_on, at_site, toppled, only, put, tile_at, AreOpen, AreDueFree, IsNoneDue, Gains, over_rim, PairSteps, IsBeside, AtTile, AreBeside, beside_at, AreAtRest, heights_before, waits, but, IsClear, AreKept}
+use Rattle.std.specs.Int.{w64}
 use Rattle.sand_model.proofs.Bounds.{at_most_sum_below, at_most_all}
-use Rattle.sand_tiles.specs.declared.tile.Tile.{Tile}
-use Rattle.sand_tiles.specs.Places.{bit, IsReady, Visits}
-use Rattle.sand_tiles.proofs.Bits.{bit_le, bit_none}
-use Rattle.sand_tiles.proofs.Moves.{cut}
-use Rattle.sand_fronts.specs.declared.sides.Beside.{Beside}
-use Rattle.sand_fronts.specs.Tiling.{tiles, tile_of, place_of, site_on}
-use Rattle.sand_fronts.specs.Waves.{at_site, toppled, only, put, tile_at, AreOpen, AreDueFree, IsNoneDue, Gains, over_rim, PairSteps, IsBeside, AtTile, AreBeside, beside_at, AreAtRest, heights_before}
-use Rattle.sand_fronts.specs.TileLists.{waits, but, IsClear, AreKept}
 use Rattle.sand_fronts.proofs.OnTiles.{place_below, there_again, at_on, on_below, height_low}
 use Rattle.sand_fronts.proofs.Waves.{only_same, open_site, free_at, IsStart, Starts, IsUnderWay, wave_ready, handed_over}
 use Rattle.sand_fronts.proofs.Steps.{inner, visited_wave}
@@ -51,6 +31,14 @@ pub record HasTurn (g : Grid) (site free : ℕ) (t : Tile) (k : ℕ) (b : Beside
   pub due : bit t.due (place_of g j) ≡ 1
   pub tile : AtTile g k b
   pub ready : IsReady t free 0
+
+-- the turns of two tiles have come; `rest` lists the others that wait
+pub record HaveTurns (g : Grid) (site : ℕ) (free : ℕ → ℕ) (τ : ℕ → Tile) (j k : ℕ) (b c : Beside) (rest : List ℕ)
+    : Type 0 where
+  pub different : j ≢ k
+  pub one : HasTurn g site (free j) (τ j) j b
+  pub two : HasTurn g site (free k) (τ k) k c
+  pub waiting : Lists (tiles g) (but k (but j (waits τ))) rest
 
 pub first_low : (g : Grid) (site : ℕ) (τ : ℕ → Tile) (j : ℕ) → j < sites g → j ≢ site → heights_before g site τ j ≤ 3
 first_low g site τ j l ne =
@@ -147,13 +135,17 @@ keep_one {n} {kept} {next} {τ} {list} {t} k new all inside less read fits is =
 
 -- ---- between two turns
 
--- the tiles from a position of the list on wait, and no other tile does; the first tiles of the list are those to count
-pub record IsOn (g : Grid) (site : ℕ) (h free : ℕ → ℕ) (τ : ℕ → Tile) (list : List ℕ) (kept position : ℕ) : Type 0 where
-  pub turn : IsTurn g site h free τ (λ m p. 0) 0 position
-  pub waiting : Lists (tiles g) (waits τ) (drop position list)
+-- from a position of the list on are the tiles that are left to visit; the first tiles of the list are those to count
+pub record HasVisited (g : Grid) (site : ℕ) (h free : ℕ → ℕ) (τ : ℕ → Tile) (away : ℕ → ℕ → ℕ) (left : ℕ → Bool)
+    (list : List ℕ) (kept position : ℕ) : Type 0 where
+  pub turn : IsTurn g site h free τ away 0 position
+  pub waiting : Lists (tiles g) left (drop position list)
   pub all_kept : AreKept (tiles g) list kept τ
-  pub spent : kept ≤ position
-  pub within : position ≤ length list
+  pub order : (kept ≤ position) × (position ≤ length list)
+
+-- all grains have arrived: what is left to visit is what waits
+abbrev pub IsOn : Grid → ℕ → (ℕ → ℕ) → (ℕ → ℕ) → (ℕ → Tile) → List ℕ → ℕ → ℕ → Type 0
+IsOn g site h free τ = HasVisited g site h free τ (λ m p. 0) (waits τ)
 
 module _ {g : Grid} {site : ℕ} {h free : ℕ → ℕ} where
   -- each tile that waits has its turn
@@ -217,20 +209,21 @@ module _ {g : Grid} {site : ℕ} {h free : ℕ → ℕ} where
       visits fits sums
 
   -- two tiles: the second one is visited while the grains of the first are under way
-  pub turn_two : {τ σ : ℕ → Tile} {j k n : ℕ} {b c : Beside} → IsTurn g site h free τ (λ m p. 0) 0 n → j ≢ k
-      → HasTurn g site (free j) (τ j) j b → HasTurn g site (free k) (τ k) k c → (steps : PairSteps τ σ free b c j k)
+  pub turn_two : {τ σ : ℕ → Tile} {j k n : ℕ} {b c : Beside} {rest : List ℕ} → IsTurn g site h free τ (λ m p. 0) 0 n
+      → HaveTurns g site free τ j k b c rest → (steps : PairSteps τ σ free b c j k)
       → IsTurn g site h free (put k steps.two.tile (put j steps.one.tile τ))
-      (λ m p. over_rim b steps.one.new m p + over_rim c steps.two.new m p) 0 (n + 1 + 1)
-  turn_two {τ} {j = j} {k = k} {b = b} {c = c} turn ne has has' steps =
+      (λ m p. over_rim b steps.one.new m p + over_rim c steps.two.new m p) 0 (n + 2)
+  turn_two {τ} {j = j} {k = k} {n = n} {b = b} {c = c} turn have steps =
       let one = steps.one in
       let two = steps.two in
       let mid : ℕ → Tile = put j one.tile τ in
-      let apart = ne_eqb k j (λ e. ne (sym e)) in
-      let still : HasTurn g site (free k) (mid k) k c = rw apart has' in
+      let apart = ne_eqb k j (λ e. have.different (sym e)) in
+      let still : HasTurn g site (free k) (mid k) k c = rw apart have.two in
       let visits : Visits (mid k) two.tile (free k) 0 two.new = rw apart two.visits in
-      turn_one (λ m p. over_rim b one.new m p + over_rim c two.new m p)
-      (turn_one (over_rim b one.new) turn has one.visits one.fits (λ m p. omega arith)) still visits two.fits
-      (λ m p. refl)
+      let both : n + 2 ≡ n + 1 + 1 = omega arith in
+      rw both (turn_one (λ m p. over_rim b one.new m p + over_rim c two.new m p)
+      (turn_one (over_rim b one.new) turn have.one one.visits one.fits (λ m p. omega arith)) still visits two.fits
+      (λ m p. refl))
 
   -- the dropped site's tile is visited first
   pub turn_first : {τ : ℕ → Tile} {k start new : ℕ} {t : Tile} {b : Beside} → IsTurn g site h free τ (λ m p. 0) 1 0
@@ -249,11 +242,12 @@ module _ {g : Grid} {site : ℕ} {h free : ℕ → ℕ} where
       (λ m q. omega arith)
 
   -- the grains under way arrive, and tiles join the list
-  pub turn_over : {τ σ : ℕ → Tile} {away : ℕ → ℕ → ℕ} {n a kept position : ℕ} {p : ℕ → Bool} {l m : ListView}
-      → IsTurn g site h free τ away 0 n → Gains free τ σ away → Joins (tiles g) a p (waits σ) l m
-      → AreKept (tiles g) l.items kept τ → Lists (tiles g) p (drop position l.items)
-      → position ≤ n → kept ≤ position → position ≤ length l.items → IsOn g site h free σ m.items kept position
-  turn_over {τ} {σ} {position = position} turn gains joins all waiting le spent within =
+  pub turn_over : {τ σ : ℕ → Tile} {away : ℕ → ℕ → ℕ} {a kept position : ℕ} {left : ℕ → Bool} {l m : ListView}
+      → Gains free τ σ away → Joins (tiles g) a left (waits σ) l m
+      → HasVisited g site h free τ away left l.items kept position → IsOn g site h free σ m.items kept position
+  turn_over {τ} {σ} {position = position} gains joins visited =
+      let turn = visited.turn in
+      let order = visited.order in
       let same : (j : ℕ) → toppled g σ j ≡ toppled g τ j =
       λ j. gains.wave (tile_of g j) (place_of g j) (place_below g j) in
       let sums = sum_below_same (sites g) (toppled g σ) (toppled g τ) (λ j l. same j) in
@@ -265,10 +259,9 @@ module _ {g : Grid} {site : ℕ} {h free : ℕ → ℕ} where
           started = omega (arith, same site, turn.started);
           count = omega (arith, turn.count);
         };
-        waiting = waiting_from joins position within waiting;
-        all_kept = kept_on all (λ t less. kept_before joins t (omega arith)) gains.wave;
-        spent = spent;
-        within = omega (arith, longer joins);
+        waiting = waiting_from joins position order.1 visited.waiting;
+        all_kept = kept_on visited.all_kept (λ t less. kept_before joins t (omega arith)) gains.wave;
+        order = (order.0, omega (arith, longer joins));
       }
 
   -- the list never has more tiles than there are sites and tiles
@@ -295,12 +288,10 @@ module _ {g : Grid} {site : ℕ} {h free : ℕ → ℕ} where
 
     -- the next two have their turns, and are not the same
     pub next_two : {k : ℕ} → position + 1 < length list → k ≡ get_or list (position + 1) 0
-        → (j ≢ k) × HasTurn g site (free j) (τ j) j (beside_at all j)
-        × HasTurn g site (free k) (τ k) k (beside_at all k)
-        × Lists (tiles g) (but k (but j (waits τ))) (drop (position + 2) list)
+        → HaveTurns g site free τ j k (beside_at all j) (beside_at all k) (drop (position + 2) list)
     next_two {k} less is' =
         let one = next_one (omega arith) in
         let two =
         front_of (tiles g) (position + 1) (position + 2) k (but j (waits τ)) list one.1 less (omega arith) is' in
         let parts : (j ≢ k) × (waits τ k ≡ true) = (λ e. grind (arith, nat_tests), grind (arith, nat_tests)) in
-        (parts.0, one.0, has_turn k board on.turn parts.1, two.1)
+        record { different = parts.0; one = one.0; two = has_turn k board on.turn parts.1; waiting = two.1 }

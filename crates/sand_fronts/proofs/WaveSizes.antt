@@ -1,16 +1,6 @@
 -- Waves one after another, and the list of their sizes.
-use Rattle.std.proofs.Common.{ℕ, List, [], ◌∷◌, ◌++◌, length, sum, take, get_or, ◌≡◌, ◌+◌, ◌-◌, ◌<◌, ◌≤◌, refl, sym, ◌∙◌, ap₂, arith, ⊎_elim}
-use Rattle.std.specs.Prelude.{slice_set}
-use Rattle.std.proofs.lemmas.Bool.{cases_eq}
-use Rattle.std.proofs.lemmas.List.{ext_get_or, length-take-le, get_or-take, length-append, get_or_append_left, get_or-append-add, length-set, get_or-set_same, get_or-set_other}
+use Rattle.sand_fronts.proofs.Common.{ℕ, List, [], ◌∷◌, ◌++◌, length, sum, take, get_or, ◌≡◌, ◌+◌, ◌-◌, ◌<◌, ◌≤◌, refl, sym, ◌∙◌, ap₂, arith, ⊎_elim, slice_set, cases_eq, ext_get_or, length-take-le, get_or-take, length-append, get_or_append_left, get_or-append-add, length-set, get_or-set_same, get_or-set_other, Grid, sites, IsUnderway, IsSettled, IsStable, Stabilises, topplings, flow_same, flow-add, settled_once, sum_below-add, sum_below_same, sum_below_none, underway_start, underway_end, Covers, IsOneWave, WavesLead, AreWrittenTo, HasWaves}
 use Rattle.std.proofs.lemmas.List.Sums.{sum_by-cons}
-use Rattle.sand_model.specs.Grid.{Grid, sites}
-use Rattle.sand_model.specs.Sand.{IsUnderway, IsSettled, IsStable, Stabilises, topplings}
-use Rattle.sand_model.proofs.Flow.{flow_same, flow-add}
-use Rattle.sand_model.proofs.Sandpile.{settled_once}
-use Rattle.sand_model.proofs.SumsBelow.{sum_below-add, sum_below_same, sum_below_none}
-use Rattle.sand_model.proofs.Underway.{underway_start, underway_end}
-use Rattle.sand_fronts.specs.WaveSizes.{Covers, IsOneWave, WavesLead, AreWrittenTo, HasWaves}
 
 -- ---- one wave
 
@@ -58,6 +48,7 @@ one_underway {g} {site} {s} {u} {h} {v} {k} inside before wave = record {
       omega (arith, below j l, wave.needed (λ i. w i - u i) (covers_of site inside wave.due rest) j l);
 }
 
+-- what a wave topples covers the heights that it begins with
 covers_itself : {g : Grid} {site : ℕ} {h v k : ℕ → ℕ} → IsOneWave g site h v k → Covers g site h v
 covers_itself wave = record {
   started = omega (arith, wave.started);
@@ -86,6 +77,7 @@ leads_same g site h i k m (size ∷ sizes) inside starts ends (v, n, wave, is, r
   leads_same g site n n k m sizes inside (λ j l. refl) ends rest,
 )
 
+-- one more wave behind the others
 leads_on : (g : Grid) (site : ℕ) (h k v m : ℕ → ℕ) (size : ℕ) (sizes : List ℕ) → site < sites g
     → WavesLead g site h sizes k → IsOneWave g site k v m → size ≡ topplings g v
     → WavesLead g site h (sizes ++ size ∷ []) m

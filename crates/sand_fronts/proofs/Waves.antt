@@ -1,19 +1,8 @@
 -- One step of a wave: a tile is visited, and the grains of its topplings reach all neighbours.
-use Rattle.std.proofs.Common.{ℕ, true, cond, ◌≡◌, ◌≢◌, ◌+◌, ◌-◌, ◌*◌, ◌%◌, ◌<◌, ◌≤◌, sym, ◌∙◌, ap, arith}
-use Rattle.std.proofs.lemmas.Bool.{cases_eq, eq-eqb, ne_eqb}
-use Rattle.std.proofs.lemmas.Bool.Decides.{nat_tests}
-use Rattle.sand_model.specs.Grid.{Grid, sites}
-use Rattle.sand_model.specs.Sand.{flow, one_at}
-use Rattle.sand_model.proofs.Flow.{flow_le, flow_same, flow-add}
-use Rattle.sand_model.proofs.Sandpile.{flow_ones}
-use Rattle.sand_model.proofs.SumsBelow.{one_at_other}
-use Rattle.sand_tiles.specs.declared.tile.Tile.{Tile}
-use Rattle.sand_tiles.specs.Places.{bit, height, had, around, unused, IsReady, Calms, Visits}
-use Rattle.sand_tiles.proofs.Bits.{bit_le}
+use Rattle.sand_fronts.proofs.Common.{ℕ, true, cond, ◌≡◌, ◌≢◌, ◌+◌, ◌-◌, ◌*◌, ◌%◌, ◌<◌, ◌≤◌, sym, ◌∙◌, ap, arith, cases_eq, eq-eqb, ne_eqb, nat_tests, Grid, sites, flow, one_at, flow_le, flow_same, flow-add, flow_ones, one_at_other, Tile, bit, height, had, around, unused, IsReady, Calms, Visits, bit_le, tile_of, place_of, is_site, site_on, at_site, toppled, AreOpen, IsWave, Gains, Covers}
 use Rattle.sand_tiles.proofs.Around.{around_le}
-use Rattle.sand_fronts.specs.Tiling.{tile_of, place_of, is_site, site_on, on_tiles}
-use Rattle.sand_fronts.specs.Waves.{at_site, toppled, only, AreOpen, IsWave, Gains}
-use Rattle.sand_fronts.specs.WaveSizes.{Covers}
+use Rattle.sand_fronts.specs.Tiling.{on_tiles}
+use Rattle.sand_fronts.specs.Waves.{only}
 use Rattle.sand_fronts.proofs.NeighboursOnTiles.{flow_on_tiles}
 use Rattle.sand_fronts.proofs.OnTiles.{place_below, there_again, at_on, on_tiles_blank, on_tiles_le, on_tiles_is, on_site, off_site, on_each, height_low}
 
@@ -34,7 +23,7 @@ around_some g v j l =
     let same = flow_same g (at_site g (on_tiles g v)) v (λ i m. at_on g v i m) j l in
     omega (arith, flow_on_tiles g (on_tiles g v) j (on_tiles_blank g v) l)
 
--- what each wave of a drop begins with: the heights h, of which the dropped site has 4, and all other sites free
+-- what each wave of a drop begins with: the heights h, at most 3 at each other site, and all other sites free
 pub record IsStart (g : Grid) (site : ℕ) (h : ℕ → ℕ) (free : ℕ → ℕ) : Type 0 where
   pub inside : site < sites g
   pub low : (j : ℕ) → j < sites g → j ≢ site → h j ≤ 3

@@ -80,15 +80,6 @@ pub record AddsSet (k set : ℕ) (c d : Counts) : Type 0 where
   pub others_sound : (m : ℕ) → m ≢ k → IsCount (counts_of c m) → IsCount (counts_of d m)
   pub others : (m p : ℕ) → m ≢ k → p < 64 → counted (counts_of d m) p ≡ counted (counts_of c m) p
 
--- the counts of tile k become 0
-pub record AreCleared (k : ℕ) (c d : Counts) : Type 0 where
-  pub counts_each : length d.each.items ≡ length c.each.items
-  pub room : vec_capacity d.spilled ≡ vec_capacity c.spilled
-  pub marks : d.marks ≡ c.marks
-  pub sound : IsCount (counts_of d k)
-  pub none : (p : ℕ) → p < 64 → counted (counts_of d k) p ≡ 0
-  pub others : (m : ℕ) → m ≢ k → counts_of d m ≡ counts_of c m
-
 -- nothing is counted at a place that is no site
 abbrev pub CountsSites : Grid → Counts → Type 0
 CountsSites g c = (m p : ℕ) → p < 64 → counted (counts_of c m) p ≡ on_tiles g (counted_on g (counts_of c)) m p

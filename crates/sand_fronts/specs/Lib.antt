@@ -11,4 +11,3 @@ pub mod TiledPiles
 pub mod Reading
 pub mod Reaching
 pub mod Avalanches
-pub mod WrittenBack

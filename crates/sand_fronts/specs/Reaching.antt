@@ -22,14 +22,20 @@ spot_of g j = record { column = column g j; row = row g j }
 abbrev pub corner_of : Grid → ℕ → Spot
 corner_of g k = record { column = (k % pitch g - 1) * 8; row = (k / pitch g - 2) * 8 }
 
+-- a place of a set is at this distance
+pub record HasPlaceAt (g : Grid) (s corner : Spot) (set d : ℕ) : Type 0 where
+  pub place : ℕ
+  pub low : place < 64
+  pub is : bit set place ≡ 1
+  pub there : distance_within g s corner place ≡ d
+
 -- far is the greatest of a reach and the distances of the places of a set
 pub record IsReachedFrom (g : Grid) (s corner : Spot) (set reach far : ℕ) : Type 0 where
   pub grows : reach ≤ far
   pub within : (p : ℕ) → p < 64 → bit set p ≡ 1 → distance_within g s corner p ≤ far
-  pub reached : reach < far → (p : ℕ) × (p < 64) × (bit set p ≡ 1) × (distance_within g s corner p ≡ far)
+  pub reached : reach < far → HasPlaceAt g s corner set far
 
 -- reach is the greatest distance of a place of any set, or 0 if there is none
 pub record IsReachedIn (g : Grid) (s : Spot) (words : ℕ → ℕ) (reach : ℕ) : Type 0 where
   pub within : (m p : ℕ) → p < 64 → bit (words m) p ≡ 1 → distance_within g s (corner_of g m) p ≤ reach
-  pub reached : 0 < reach
-      → (m : ℕ) × (p : ℕ) × (p < 64) × (bit (words m) p ≡ 1) × (distance_within g s (corner_of g m) p ≡ reach)
+  pub reached : 0 < reach → (m : ℕ) × HasPlaceAt g s (corner_of g m) (words m) reach

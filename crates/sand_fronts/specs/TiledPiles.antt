@@ -48,7 +48,7 @@ abbrev pub toppled_between : TiledView → TiledView → ℕ → ℕ
 toppled_between v w j = slice_index w.times j - slice_index v.times j
 
 -- a grain dropped at a site, and the topplings that follow, lead from v to w, and this is its avalanche
-pub record HasDropped (v : TiledView) (site : ℕ) (a : Avalanche) (w : TiledView) : Type 0 where
+pub record HasDroppedOnTiles (v : TiledView) (site : ℕ) (a : Avalanche) (w : TiledView) : Type 0 where
   pub grid : w.grid ≡ v.grid
   pub by_site : IsTiledView w
   pub never_falls : (j : ℕ) → slice_index v.times j ≤ slice_index w.times j

@@ -12,7 +12,7 @@ ghost use Rattle.sand_fronts.specs.Tiling.{tiles};
 ghost use Rattle.sand_fronts.specs.TileLists.{AreListed, IsClear};
 ghost use Rattle.sand_fronts.specs.Waves.{tile_at};
 ghost use Rattle.sand_fronts.specs.Counting.{spilled_at, in_wave, over_wave, with_wave};
-ghost use Rattle.sand_fronts.specs.Boards.{tiles_of, counts_of, marks_of, IsBoard, IsSand, AreCounts, AreCounted, AreCleared, AddsSet};
+ghost use Rattle.sand_fronts.specs.Boards.{tiles_of, counts_of, marks_of, IsBoard, IsSand, AreCounts, AreCounted, AddsSet};
 
 use crate::board::Board;
 use crate::marks::Marks;
@@ -110,18 +110,6 @@ impl Counts {
             add_between(&mut times, 0, 8, &self.spilled[k], place);
         }
         times
-    }
-
-    /// Sets the counts of a tile back to 0.
-    #[inline(always)]
-    pub(crate) fn clear(&mut self, k: usize)
-        requires { k < length self.old.each.items }
-        ensures { AreCleared k self.old self.new }
-    {
-        self.each[k] = NO_RECENT;
-        if k < self.spilled.len() {
-            self.spilled[k] = [0; 64];
-        }
     }
 
     // Moves the latest topplings of a tile to its list.

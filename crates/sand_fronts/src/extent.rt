@@ -22,9 +22,9 @@ pub(crate) struct Extent {
 
 const NOWHERE: Extent = Extent { area: 0, reach: 0 };
 
-/// The first place of a tile with sites.
+// The first place of a tile with sites.
 #[inline(always)]
-pub(crate) fn corner(shape: Shape, k: usize) -> Spot
+fn corner(shape: Shape, k: usize) -> Spot
     requires { k < 2 ^ 20 }
     ensures value { result ≡ corner_of shape k }
     ensures fits { (result.column < 2 ^ 31) × (result.row < 2 ^ 31) }

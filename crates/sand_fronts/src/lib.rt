@@ -14,7 +14,6 @@ mod sand;
 mod sides;
 mod tiled_pile;
 mod tiling;
-mod written_back;
 
 pub use avalanche::Avalanche;
 pub use tiled_pile::TiledPile;

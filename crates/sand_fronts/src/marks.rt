@@ -67,25 +67,6 @@ impl Marks {
         self.tiles.len()
     }
 
-    /// A tile whose set is not empty.
-    #[inline(always)]
-    pub(crate) fn tile(&self, position: usize) -> usize
-        requires { position < length self.now.tiles }
-        ensures value { result ≡ slice_index self.now.tiles position }
-        ensures within { result < length self.now.sets }
-    {
-        self.tiles.item(position)
-    }
-
-    /// The set of a tile.
-    #[inline(always)]
-    pub(crate) fn set(&self, k: usize) -> u64
-        requires { k < length self.now.sets }
-        ensures { result ≡ slice_index self.now.sets k }
-    {
-        self.words[k]
-    }
-
     /// Takes the last tile out of the list, and its set.
     #[inline(always)]
     pub(crate) fn take_last(&mut self) -> (usize, u64)

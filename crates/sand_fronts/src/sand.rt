@@ -40,8 +40,8 @@ use core::mem::replace_with;
 use sand_model::{Edge, IndexList};
 use sand_tiles::{Tile, receive, set_of, visit, visit_pair};
 
-/// The first column of a tile.
-pub(crate) const FIRST: u64 = 0x0101_0101_0101_0101;
+// The first column of a tile.
+const FIRST: u64 = 0x0101_0101_0101_0101;
 
 // Visits two tiles side by side. It is a call of its own, so that nothing else is around the rounds, and on the list, so
 // that no copy of the tiles leaves it: a copy would be read before the words written last have reached memory.

@@ -7,19 +7,18 @@
 //! tile, and put back after them. Then area and reach are read from the marked sites (`extent`).
 
 ghost use Rattle.std.specs.Prelude.{◌≡◌, ℕ, ◌+◌, ◌*◌, ◌^◌, ◌<◌, ◌≤◌, length, slice_index, IfOk};
-ghost use Rattle.sand_model.specs.Grid.{Grid, IsGrid, sites};
-ghost use Rattle.sand_model.specs.Sand.{IsSettled, one_at, topplings, lost};
+ghost use Rattle.sand_model.specs.Grid.{IsGrid, sites};
+ghost use Rattle.sand_model.specs.Sand.{one_at, topplings, lost};
 ghost use Rattle.sand_tiles.specs.Counts.{counted};
 ghost use Rattle.sand_fronts.specs.Tiling.{tiles};
 ghost use Rattle.sand_fronts.specs.WaveSizes.{HasWaves};
 ghost use Rattle.sand_fronts.specs.Waves.{AreAllOpen};
 ghost use Rattle.sand_fronts.specs.Marking.{AreToppled, AreSites};
-ghost use Rattle.sand_fronts.specs.Drops.{heights_on, AreQuiet};
-ghost use Rattle.sand_fronts.specs.WrittenBack.{AreLow, risen};
+ghost use Rattle.sand_fronts.specs.Drops.{heights_on};
 ghost use Rattle.sand_fronts.specs.Avalanches.{IsAvalanche};
-ghost use Rattle.sand_fronts.specs.Boards.{tiles_of, free_of, counts_of, marks_of, grown, IsBoard, IsSand, HasSettled};
+ghost use Rattle.sand_fronts.specs.Boards.{tiles_of, free_of, counts_of, marks_of, grown, IsBoard, HasSettled};
 ghost use Rattle.sand_fronts.specs.Reading.{IsFirstOfEight, AreOfEight};
-ghost use Rattle.sand_fronts.specs.TiledPiles.{IsTiledPile, IsTiledView, HasDropped, by_site, toppled_between};
+ghost use Rattle.sand_fronts.specs.TiledPiles.{IsTiledPile, IsTiledView, HasDroppedOnTiles, by_site};
 
 use crate::avalanche::Avalanche;
 use crate::board::{Board, DropSite};
@@ -31,7 +30,6 @@ use crate::reach::Spot;
 use crate::reading::add_eights;
 use crate::sand::Sand;
 use crate::tiling::{find, find_at, tiles, tiles_with};
-use crate::written_back::write_back;
 use sand_model::{IndexList, Shape};
 use sand_tiles::{eight_heights, height_at, receive, set_of};
 use std::alloc::{AllocError, Global};
@@ -73,37 +71,6 @@ fn topple_grain(
     let (total, waves) = topple_all(board, sand, counts, DropSite { site, tile, place }, sizes);
     board.free[tile] = whole;
     (total, waves)
-}
-
-// Adds a grain at a site that has fewer than 3, so that nothing topples.
-#[inline(always)]
-fn add_grain(shape: Shape, sand: &mut Sand, site: usize)
-    requires site { site < sites shape }
-    requires sand { IsSand shape sand.old }
-    requires quiet { AreQuiet (tiles_of sand.old) }
-    requires low { heights_on shape (tiles_of sand.old) site < 3 }
-    ensures sand { IsSand shape sand.new }
-    ensures quiet { AreQuiet (tiles_of sand.new) }
-    ensures heights { (j : ℕ) → j < sites shape
-        → heights_on shape (tiles_of sand.new) j ≡ heights_on shape (tiles_of sand.old) j + one_at site j }
-{
-    let (tile, place) = find(shape, site);
-    let grain = set_of(place);
-    receive(&mut sand.tiles[tile], grain, 0);
-}
-
-// The avalanche of a drop that topples nothing.
-#[inline(always)]
-fn calm(site: usize) -> Avalanche
-    ensures { (g : Grid) (v : ℕ → ℕ) → ((j : ℕ) → j < sites g → v j ≡ 0) → IsAvalanche g site v result }
-{
-    Avalanche {
-        site,
-        size: 0,
-        area: 0,
-        reach: 0,
-        lost: 0,
-    }
 }
 
 // The avalanche of a drop, from its total and the sites that it marked. Clears the marks.
@@ -170,27 +137,12 @@ impl TiledPile {
         })
     }
 
-    /// Drops a grain at a site, and topples until the pile is stable. Returns the avalanche.
-    pub fn drop_at(&mut self, site: usize) -> Avalanche
-        requires site { site < sites self.old.grid }
-        requires bound { (j : ℕ) → j < sites self.old.grid → slice_index self.old.times j < 2 ^ 60 }
-        ensures grid { self.new.grid ≡ self.old.grid }
-        ensures by_site { IsTiledView self.new }
-        ensures never_falls { (j : ℕ) → slice_index self.old.times j ≤ slice_index self.new.times j }
-        ensures settled { IsSettled self.old.grid (λ j. slice_index self.old.heights j + one_at site j)
-            (toppled_between self.old self.new) (slice_index self.new.heights) }
-        ensures avalanche { IsAvalanche self.old.grid site (toppled_between self.old self.new) result }
-    {
-        let (avalanche, _) = self.drop_with_waves(site, &mut []);
-        avalanche
-    }
-
-    /// The same, and writes the size of each wave to a list, as many as it has room for. Returns the avalanche and the
-    /// number of waves.
+    /// Drops a grain at a site, and topples until the pile is stable. Writes the size of each wave to a list, as many as it
+    /// has room for. Returns the avalanche and the number of waves.
     pub fn drop_with_waves(&mut self, site: usize, sizes: &mut [u64]) -> (Avalanche, usize)
         requires site { site < sites self.old.grid }
         requires bound { (j : ℕ) → j < sites self.old.grid → slice_index self.old.times j < 2 ^ 60 }
-        ensures dropped { HasDropped self.old site result.0 self.new }
+        ensures dropped { HasDroppedOnTiles self.old site result.0 self.new }
         ensures waves { HasWaves self.old.grid site (λ j. slice_index self.old.heights j + one_at site j)
             (slice_index self.new.heights) result.1 sizes.old sizes.new }
     {
@@ -204,40 +156,6 @@ impl TiledPile {
         );
         let avalanche = avalanche_of(shape, site, total, &mut self.counts.marks);
         (avalanche, waves)
-    }
-
-    /// The same on a pile where no topplings are counted, with lists of its heights and topplings by site: brings both up
-    /// to date, and leaves no topplings counted.
-    pub fn drop_into(&mut self, site: usize, heights: &mut [u64], odometer: &mut [u64]) -> Avalanche
-        requires site { site < sites self.old.grid }
-        requires uncounted { (j : ℕ) → slice_index self.old.times j ≡ 0 }
-        requires heights { heights.old ≡ self.old.heights }
-        requires low { AreLow heights.old }
-        requires odometer_each { length odometer.old ≡ sites self.old.grid }
-        requires bound { (j : ℕ) → j < sites self.old.grid → slice_index odometer.old j < 2 ^ 59 }
-        ensures grid { self.new.grid ≡ self.old.grid }
-        ensures uncounted { (j : ℕ) → slice_index self.new.times j ≡ 0 }
-        ensures heights { heights.new ≡ self.new.heights }
-        ensures never_falls { (j : ℕ) → slice_index odometer.old j ≤ slice_index odometer.new j }
-        ensures settled { IsSettled self.old.grid (λ j. slice_index heights.old j + one_at site j)
-            (risen odometer.old odometer.new) (slice_index heights.new) }
-        ensures avalanche { IsAvalanche self.old.grid site (risen odometer.old odometer.new) result }
-    {
-        let shape = self.board.shape;
-        if heights[site] < 3 {
-            heights[site] += 1;
-            add_grain(shape, &mut self.sand, site);
-            return calm(site);
-        }
-        let (total, _) = topple_grain(
-            &mut self.board,
-            &mut self.sand,
-            &mut self.counts,
-            site,
-            &mut [],
-        );
-        write_back(&self.board, &self.sand, &mut self.counts, heights, odometer);
-        avalanche_of(shape, site, total, &mut self.counts.marks)
     }
 
     /// The height of the site in a column and a row. Unlike `height`, it needs no division.

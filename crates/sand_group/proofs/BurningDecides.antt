@@ -2,21 +2,11 @@
 --
 -- In a recurrent pile no set is forbidden, so all sites burn one by one. Conversely, the first site of a forbidden set
 -- in the order has all its neighbours in the set after it.
-use Rattle.std.proofs.Common.{ℕ, Bool, true, false, ◌≡◌, ◌+◌, ◌<◌, ◌≤◌, ap, arith, List, [], ◌∷◌, All, count_by, inl, inr}
-use Rattle.std.specs.Prelude.{◌↔◌}
-use Rattle.std.proofs.lemmas.Bool.{cases_Bool}
-use Rattle.std.proofs.lemmas.Bool.Decides.{nat_tests}
+use Rattle.sand_group.proofs.Common.{ℕ, Bool, true, false, ◌≡◌, ◌+◌, ◌<◌, ◌≤◌, ap, arith, List, [], ◌∷◌, All, count_by, inl, inr, ◌↔◌, cases_Bool, nat_tests, All-nil, All-cons, All-head, All-tail, Grid, IsGrid, joins, sites, neighbours, sum_below, occurrences, one_at, value_at, IsStable, IsForbidden, flow_four, some_width, count_within, flow_same, flow-add, indicator, occurrences-cons, IsRecurrent, is_in, BurnsInOrder, IsBurningOrder}
 use Rattle.std.proofs.lemmas.Nat.{div-add-mod'}
-use Rattle.std.proofs.lemmas.List.Elements.{All-nil, All-cons, All-head, All-tail}
-use Rattle.sand_model.specs.Grid.{Grid, IsGrid, joins, sites, neighbours, north, west, east, south}
-use Rattle.sand_model.specs.Sand.{sum_below, flow, occurrences, one_at, value_at, IsStable}
-use Rattle.sand_model.specs.Forbidden.{IsForbidden}
-use Rattle.sand_model.proofs.Neighbours.{flow_four, some_width}
-use Rattle.sand_model.proofs.NeighboursInSets.{count_within}
-use Rattle.sand_model.proofs.Flow.{flow_same, flow-add, indicator}
-use Rattle.sand_model.proofs.Occurrences.{occurrences-cons}
+use Rattle.sand_model.specs.Grid.{north, west, east, south}
+use Rattle.sand_model.specs.Sand.{flow}
 use Rattle.sand_certify.proofs.OneByOne.{without, without_one, one_by_one}
-use Rattle.sand_group.specs.Recurrence.{IsRecurrent, is_in, BurnsInOrder, IsBurningOrder}
 
 -- ---- no site is its own neighbour
 
@@ -80,6 +70,7 @@ order_of g s recurrent =
 
 -- ---- a recurrent pile from an order
 
+-- the first site of the order that is in the set has all other sites of the set after it
 first_has_others : (g : Grid) (set : ℕ → Bool) (i : ℕ) (later : List ℕ)
     → IsGrid g → i < sites g → set i ≡ true
     → ((j : ℕ) → j < sites g → set j ≡ true → 1 ≤ occurrences (i ∷ later) j)
@@ -94,6 +85,7 @@ first_has_others g set i later grid l here among = omega (
       grind (arith, nat_tests, cases_Bool (set j), among j m, occurrences-cons i later j)),
 )
 
+-- no set that burns in an order is forbidden
 no_forbidden : (g : Grid) (s : ℕ → ℕ) (set : ℕ → Bool) (order : List ℕ) → IsGrid g
     → IsForbidden g s set → All (λ i. i < sites g) order → BurnsInOrder g s order
     → ((j : ℕ) → j < sites g → set j ≡ true → 1 ≤ occurrences order j) → ⊥

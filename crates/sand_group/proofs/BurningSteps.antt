@@ -1,19 +1,9 @@
 -- A fire that spreads step by step: its list has, after each step, the sites that burn in it or before.
-use Rattle.std.proofs.Common.{ℕ, zero, suc, Bool, false, not, leb, ◌≡◌, ◌≢◌, ◌+◌, ◌-◌, ◌<◌, ◌≤◌, refl, sym, ◌∙◌, ap, arith, List, ◌++◌, ◌∷◌, [], length, take, get_or, count_by}
+use Rattle.sand_group.proofs.Common.{ℕ, zero, suc, Bool, false, not, leb, ◌≡◌, ◌≢◌, ◌+◌, ◌-◌, ◌<◌, ◌≤◌, refl, sym, ◌∙◌, ap, arith, List, ◌++◌, ◌∷◌, [], length, take, get_or, count_by, cases_eq, cases_lt, nat_tests, take_more, get_or-set_same, get_or-set_other, Grid, sites, neighbours, occurrences, one_at, Lists, one_if, flow_same, indicator, at_most_once, occurrences-push, is_in, may_burn, is_out, CountsUnburnt}
 use Rattle.std.proofs.Math.Numerals.{add-one}
 use Rattle.std.proofs.Math.ListN.{set}
-use Rattle.std.proofs.lemmas.Bool.{cases_eq, cases_lt}
-use Rattle.std.proofs.lemmas.Bool.Decides.{nat_tests}
-use Rattle.std.proofs.lemmas.List.{take_more, get_or-set_same, get_or-set_other}
-use Rattle.sand_model.specs.Grid.{Grid, sites, neighbours}
-use Rattle.sand_model.specs.Sand.{flow, occurrences, one_at}
-use Rattle.sand_model.specs.Lists.{Lists, one_if}
-use Rattle.sand_model.proofs.Flow.{flow_same, indicator}
-use Rattle.sand_model.proofs.Lists.{at_most_once}
-use Rattle.sand_model.proofs.Occurrences.{occurrences-push}
+use Rattle.sand_model.specs.Sand.{flow}
 use Rattle.sand_model.proofs.SumsBelow.{one_at_same, one_at_other}
-use Rattle.sand_group.specs.Recurrence.{is_in}
-use Rattle.sand_group.specs.Fire.{may_burn, is_out, CountsUnburnt}
 use Rattle.sand_group.specs.BurningTimes.{burns_within, AreBurningTimes, AreTimesSoFar}
 use Rattle.sand_group.proofs.SitesInListing.{is_in_listing}
 

@@ -1,14 +1,5 @@
 -- The identity from topplings that empty it: a pile that some topplings take to all 0 is equivalent to all 0.
-use Rattle.std.proofs.Common.{ℕ, ◌≡◌, refl, arith, length}
-use Rattle.std.specs.Prelude.{pos}
-use Rattle.std.proofs.lemmas.Int.{ints}
-use Rattle.sand_model.specs.Grid.{Grid, sites}
-use Rattle.sand_model.specs.Sand.{IsToppled}
-use Rattle.sand_model.specs.Integers.{whole, IsEquivalent}
-use Rattle.sand_model.specs.Piles.{PileView, height_of}
-use Rattle.sand_model.proofs.OverIntegers.{toppled_is_integers}
-use Rattle.sand_model.proofs.Sandpile.{settled_same}
-use Rattle.sand_group.specs.Group.{SettlesTo, IsSurplus, IsIdentity}
+use Rattle.sand_group.proofs.Common.{ℕ, ◌≡◌, refl, arith, length, pos, ints, Grid, sites, IsToppled, whole, IsEquivalent, PileView, height_of, toppled_is_integers, settled_same, SettlesTo, IsSurplus, IsIdentity}
 use Rattle.sand_model.proofs.EachSettles.{settles}
 use Rattle.sand_group.proofs.OperationsSettle.{some_surplus, identity_is_settled, represented_once}
 

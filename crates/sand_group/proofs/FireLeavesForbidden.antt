@@ -1,24 +1,11 @@
 -- The end of a fire: no site of a forbidden set burns, and the order in which the others burn is a burning order.
-use Rattle.std.proofs.Common.{Option, Some, None, IfSome, get_or, take, not, ℕ, Bool, true, ◌≡◌, ◌+◌, ◌<◌, ◌≤◌, refl, sym, ◌∙◌, ap, arith, List, [], ◌∷◌, ◌++◌, length, All, count_by, append_assoc, append-nil}
-use Rattle.std.proofs.lemmas.Bool.Decides.{nat_tests}
-use Rattle.std.proofs.lemmas.List.{take-take, take_more, length-take}
-use Rattle.std.specs.List.Sorted.{IsStrictlyIncreasing}
-use Rattle.std.proofs.lemmas.List.Elements.{All-head, All-tail}
-use Rattle.sand_model.specs.Grid.{Grid, sites, places, neighbours, missing}
-use Rattle.sand_model.specs.Sand.{flow, occurrences, one_at, value_at, IsStable}
-use Rattle.sand_model.specs.Lists.{Lists}
+use Rattle.sand_group.proofs.Common.{Option, Some, None, IfSome, get_or, take, not, ℕ, Bool, true, ◌≡◌, ◌+◌, ◌<◌, ◌≤◌, refl, sym, ◌∙◌, ap, arith, List, [], ◌∷◌, ◌++◌, length, All, count_by, append_assoc, append-nil, nat_tests, take-take, take_more, length-take, IsStrictlyIncreasing, All-head, All-tail, Grid, sites, places, neighbours, occurrences, one_at, value_at, IsStable, Lists, neighbours_mutual, neighbours_at_most_four, place_inside, flow_same, flow-add, indicator, sum_by_ones, occurrences-push, occurrences-cons, listed, at_most_once, lists_below, lists_all, lists_leave, read_below, read_fresh, read_passes, IsRecurrent, is_in, BurnsInOrder, IsBurningOrder, IsGreatestForbidden, IsForbidden, may_burn, is_out, FireSpreadsFrom, CountsUnburnt, count_within}
+use Rattle.sand_model.specs.Grid.{missing}
+use Rattle.sand_model.specs.Sand.{flow}
 use Rattle.sand_model.proofs.SumsBelow.{one_at_same, one_at_other}
-use Rattle.sand_model.proofs.Neighbours.{neighbours_mutual, neighbours_at_most_four, place_inside}
-use Rattle.sand_model.proofs.Flow.{flow_same, flow-add, indicator}
-use Rattle.sand_model.proofs.Sandpile.{sum_by_ones}
-use Rattle.sand_model.proofs.Occurrences.{occurrences-push, occurrences-cons}
-use Rattle.sand_model.proofs.Lists.{listed, at_most_once, lists_below, lists_all, lists_leave, read_below, read_fresh, read_passes}
-use Rattle.sand_group.specs.Recurrence.{IsRecurrent, is_in, BurnsInOrder, IsBurningOrder, IsGreatestForbidden}
-use Rattle.sand_model.specs.Forbidden.{IsForbidden}
-use Rattle.sand_group.specs.Fire.{may_burn, is_out, FireSpreadsFrom, CountsUnburnt}
-use Rattle.sand_model.proofs.NeighboursInSets.{count_within}
 use Rattle.sand_group.proofs.SitesInListing.{is_out-none, is_in_listing}
 
+-- the next site that may burn burns after all others
 fire_spreads_push : (g : Grid) (s : ℕ → ℕ) (before xs : List ℕ) (i : ℕ)
     → FireSpreadsFrom g s before xs
     → count_by (is_out (before ++ xs)) (neighbours g i) ≤ s i
@@ -27,6 +14,7 @@ fire_spreads_push g s before [] i burnt high = (rw (sym (append-nil before)) hig
 fire_spreads_push g s before (x ∷ xs) i burnt high =
     (burnt.0, fire_spreads_push g s (before ++ x ∷ []) xs i burnt.1 (rw (append_assoc before (x ∷ []) xs) high))
 
+-- no site of a forbidden set burns: the first to burn would have all its neighbours in the set unburnt
 forbidden_unburnt : (g : Grid) (s : ℕ → ℕ) (set : ℕ → Bool) (before xs : List ℕ)
     → IsForbidden g s set → All (λ i. i < sites g) xs
     → ((j : ℕ) → set j ≡ true → occurrences before j ≡ 0)
@@ -41,6 +29,7 @@ forbidden_unburnt g s set before (x ∷ xs) bad below none burnt j in' =
     (λ k here. omega (arith, occurrences-push before x k, out k here, none k here)) burnt.1 j in' in
     omega (arith, occurrences-cons x xs j, out j in')
 
+-- the neighbours that come later are among those that did not burn before
 in_turn : (g : Grid) (s : ℕ → ℕ) (before xs : List ℕ) → All (λ i. i < sites g) xs
     → ((j : ℕ) → occurrences before j + occurrences xs j ≤ 1) → FireSpreadsFrom g s before xs
     → BurnsInOrder g s xs

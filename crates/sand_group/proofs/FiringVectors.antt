@@ -2,17 +2,7 @@
 --
 -- If Lz is 0 at each site, any recurrent pile c is c - Lz, so z is neither above nor below 0 anywhere, as in the proof
 -- that equivalent recurrent piles are equal.
-use Rattle.std.proofs.Common.{ℕ, ◌≡◌, ◌+◌, ◌-◌, ◌*◌, ◌<◌, sym, arith}
-use Rattle.std.specs.Prelude.{ℤ, pos, ◌+ℤ◌, ◌-ℤ◌, ◌↔◌}
-use Rattle.std.proofs.lemmas.Int.{ints}
-use Rattle.sand_model.specs.Grid.{Grid, sites}
-use Rattle.sand_model.specs.Sand.{flow}
-use Rattle.sand_model.specs.Integers.{laplacian, whole, IsEquivalent}
-use Rattle.sand_model.proofs.Flow.{flow_same, flow-add}
-use Rattle.sand_model.proofs.OverIntegers.{above, below, parts, laplacian-parts}
-use Rattle.sand_group.specs.Recurrence.{IsRecurrent}
-use Rattle.sand_group.specs.Group.{Represents}
-use Rattle.sand_group.specs.Classes.{IsFired}
+use Rattle.sand_group.proofs.Common.{ℕ, ◌≡◌, ◌+◌, ◌-◌, ◌*◌, ◌<◌, sym, arith, ℤ, pos, ◌+ℤ◌, ◌-ℤ◌, ◌↔◌, ints, Grid, sites, flow, laplacian, whole, IsEquivalent, flow_same, flow-add, above, below, parts, laplacian-parts, IsRecurrent, Represents, IsFired}
 use Rattle.sand_group.proofs.RecurrentIsUnique.{none_above}
 use Rattle.sand_group.proofs.OperationsSettle.{class_has_one, represented_once}
 
@@ -38,6 +28,7 @@ laplacian-difference g z p q is i l = omega (
 abbrev more : (ℕ → ℕ) → (ℕ → ℕ) → ℕ → ℕ
 more p q i = p i - q i
 
+-- if Lp and Lq are the same, so are p and q
 same_if_flat : (g : Grid) (p q : ℕ → ℕ)
     → ((i : ℕ) → i < sites g → 4 * p i + flow g q i ≡ 4 * q i + flow g p i)
     → (i : ℕ) → i < sites g → p i ≡ q i

@@ -1,10 +1,5 @@
 -- Integers in two parts, and lists of integers that grow by a number at a time.
-use Rattle.std.proofs.Common.{ℕ, true, false, ◌≡◌, ◌+◌, ◌-◌, ◌<◌, ◌∙◌, inl, inr, ap, arith, List, [], ◌∷◌, ◌++◌, length, get_or}
-use Rattle.std.specs.Prelude.{ℤ, pos, negsuc, ◌-ℤ◌, int_lt, unsigned_abs}
-use Rattle.std.proofs.lemmas.Bool.{cases_lt, ltb-true}
-use Rattle.std.proofs.lemmas.Int.{ints}
-use Rattle.std.proofs.lemmas.List.{get_or_push, get_or_append_left}
-use Rattle.sand_group.specs.Classes.{integer_at}
+use Rattle.sand_group.proofs.Common.{ℕ, true, false, ◌≡◌, ◌+◌, ◌-◌, ◌<◌, ◌∙◌, inl, inr, ap, arith, List, [], ◌∷◌, ◌++◌, length, get_or, ℤ, pos, negsuc, ◌-ℤ◌, int_lt, unsigned_abs, cases_lt, ltb-true, ints, get_or_push, get_or_append_left, integer_at}
 
 pub integer_pushed : (f : ℕ → ℤ) (xs ys : List ℤ) (x : ℤ) (n : ℕ) → ys ≡ xs ++ x ∷ [] → length xs ≡ n → x ≡ f n
     → ((i : ℕ) → i < n → integer_at xs i ≡ f i) → (i : ℕ) → i < n + 1 → integer_at ys i ≡ f i

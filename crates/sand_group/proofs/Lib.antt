@@ -13,3 +13,4 @@ pub mod FiringVectors
 pub mod SuperstableHeights
 pub mod ReachedIsRecurrent
 pub mod WhyRefused
+pub mod Common

@@ -1,15 +1,7 @@
 -- The n-fold sums of a recurrent pile add up as n does.
-use Rattle.std.proofs.Common.{ℕ, ◌≡◌, ◌+◌, ◌-◌, ◌*◌, ◌/◌, ◌^◌, ◌<◌, ◌≤◌, arith}
-use Rattle.std.specs.Prelude.{ℤ, pos, ◌↔◌}
-use Rattle.std.proofs.lemmas.Int.{ints}
+use Rattle.sand_group.proofs.Common.{ℕ, ◌≡◌, ◌+◌, ◌-◌, ◌*◌, ◌/◌, ◌^◌, ◌<◌, ◌≤◌, arith, ℤ, pos, ◌↔◌, ints, Grid, sites, whole, IsEquivalent, PileView, height_of, equivalent_sym, equivalent_add, equivalent_same, IsRecurrent, Represents, IsSum, IsMultiple, IsIdentity}
 use Rattle.std.proofs.lemmas.Nat.{shr-shr}
 use Rattle.std.proofs.Math.Nat.{div-eq_of_lt-le, div-one}
-use Rattle.sand_model.specs.Grid.{Grid, sites}
-use Rattle.sand_model.specs.Integers.{whole, IsEquivalent}
-use Rattle.sand_model.specs.Piles.{PileView, height_of}
-use Rattle.sand_model.proofs.EquivalenceIsLinear.{equivalent_sym, equivalent_add, equivalent_same}
-use Rattle.sand_group.specs.Recurrence.{IsRecurrent}
-use Rattle.sand_group.specs.Group.{Represents, IsSum, IsMultiple, IsIdentity}
 use Rattle.sand_group.proofs.OperationsSettle.{class_has_one, represents_itself, represents_by, represented_once}
 
 represents_same : (g : Grid) (x y : ℕ → ℤ) (c : ℕ → ℕ) → ((i : ℕ) → i < sites g → x i ≡ y i) → Represents g x c

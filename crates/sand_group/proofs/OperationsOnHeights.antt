@@ -1,19 +1,7 @@
 -- The results of the operations of the group, from the lists of heights that they settle.
-use Rattle.std.proofs.Common.{ℕ, ◌≡◌, ◌+◌, ◌-◌, ◌*◌, ◌<◌, ◌≤◌, refl, sym, ◌∙◌, ap, arith, List, length, sum, get_or, replicate, All}
+use Rattle.sand_group.proofs.Common.{ℕ, ◌≡◌, ◌+◌, ◌-◌, ◌*◌, ◌<◌, ◌≤◌, refl, sym, ◌∙◌, ap, arith, List, length, sum, get_or, replicate, All, ext_get_or, get_or-replicate, get_or_read, sum_by-le, All-from_get_or, Grid, IsGrid, sites, IsStable, IsSettled, one_at, whole, PileView, IsPile, height_of, most_grains, settled_in_parts, settled_once, settled_same, sites_limit, SettledView, IsSettledRecord, odometer_of, IsRecurrent, SettlesTo, IsSurplus, IsSum, IsIdentity, IsEquivalentRecurrent}
 use Rattle.std.proofs.Math.ListN.{set}
-use Rattle.std.proofs.lemmas.List.{ext_get_or, get_or-replicate, get_or_read}
-use Rattle.std.proofs.lemmas.List.Sums.{sum_by-le}
-use Rattle.std.proofs.lemmas.List.Elements.{All-from_get_or}
-use Rattle.sand_model.specs.Grid.{Grid, IsGrid, sites}
-use Rattle.sand_model.specs.Sand.{IsStable, IsSettled, one_at}
-use Rattle.sand_model.specs.Integers.{whole}
-use Rattle.sand_model.specs.Piles.{PileView, IsPile, height_of, most_grains}
-use Rattle.sand_model.proofs.Sandpile.{settled_in_parts, settled_once, settled_same}
-use Rattle.sand_model.proofs.Bounds.{sites_limit}
 use Rattle.sand_model.proofs.Heights.{get_or-written}
-use Rattle.sand_settle.specs.Settling.{SettledView, IsSettledRecord, odometer_of}
-use Rattle.sand_group.specs.Recurrence.{IsRecurrent}
-use Rattle.sand_group.specs.Group.{SettlesTo, IsSurplus, IsSum, IsIdentity, IsEquivalentRecurrent}
 use Rattle.sand_group.proofs.OperationsSettle.{sum_is_settled, equivalent_is_settled, represents_itself, represented_once}
 
 -- far below the limit of a pile

@@ -1,21 +1,10 @@
 -- The members of the group: high piles, and recurrent piles with more grains, settle to recurrent piles; a + b, d and
 -- 2d - c settle to the sum, the identity and the inverse.
-use Rattle.std.proofs.Common.{ℕ, ◌≡◌, ◌+◌, ◌-◌, ◌*◌, ◌<◌, ◌≤◌, refl, arith}
-use Rattle.std.specs.Prelude.{ℤ, pos, ◌-ℤ◌}
-use Rattle.std.proofs.lemmas.Int.{ints}
+use Rattle.sand_group.proofs.Common.{ℕ, ◌≡◌, ◌+◌, ◌-◌, ◌*◌, ◌<◌, ◌≤◌, refl, arith, ℤ, pos, ◌-ℤ◌, ints, Grid, sites, sum_below, IsSettled, whole, IsEquivalent, settled_in_parts, settled_same, settled_stable, at_most_sum_below, above, below, parts, settled_equivalent, IsRecurrent, OnceSettled, IsSurplus, Represents, IsSum, IsIdentity, IsInverse, equivalent_sym, equivalent_add, equivalent_same, equivalent_times, equivalent_trans}
 use Rattle.std.proofs.Math.Nat.{mul-le-mul_left}
-use Rattle.sand_model.specs.Grid.{Grid, sites}
-use Rattle.sand_model.specs.Sand.{sum_below, IsSettled}
-use Rattle.sand_model.specs.Integers.{whole, IsEquivalent}
-use Rattle.sand_model.proofs.Sandpile.{settled_in_parts, settled_same, settled_stable}
-use Rattle.sand_model.proofs.Bounds.{at_most_sum_below}
-use Rattle.sand_model.proofs.OverIntegers.{above, below, parts, settled_equivalent}
-use Rattle.sand_group.specs.Recurrence.{IsRecurrent}
-use Rattle.sand_group.specs.Group.{OnceSettled, IsSurplus, Represents, IsSum, IsIdentity, IsInverse}
 use Rattle.sand_model.proofs.EachSettles.{settles}
 use Rattle.sand_group.proofs.SettledIsRecurrent.{settled_recurrent}
 use Rattle.sand_group.proofs.RecurrentIsUnique.{recurrent_unique}
-use Rattle.sand_model.proofs.EquivalenceIsLinear.{equivalent_sym, equivalent_add, equivalent_same, equivalent_times, equivalent_trans}
 
 -- s settles, so it is enough that P is true of each pile that s settles to
 pub once_settled : (g : Grid) (s : ℕ → ℕ) (P : (ℕ → ℕ) → Type 0) → ((u t : ℕ → ℕ) → IsSettled g s u t → P t)

@@ -1,19 +1,6 @@
 -- What `reach` settles last is recurrent, and the odometers make the firing vector.
-use Rattle.std.proofs.Common.{ℕ, ◌≡◌, ◌+◌, ◌*◌, ◌^◌, ◌<◌, ◌≤◌, ◌∙◌, refl, ap, arith, List, length, get_or, replicate}
-use Rattle.std.specs.Prelude.{ℤ, pos, ◌+ℤ◌, ◌-ℤ◌}
-use Rattle.std.proofs.lemmas.Int.{ints}
-use Rattle.std.proofs.lemmas.List.{get_or-replicate, get_or_default}
-use Rattle.sand_model.specs.Grid.{Grid, sites}
-use Rattle.sand_model.specs.Integers.{whole}
-use Rattle.sand_model.specs.Piles.{PileView, height_of}
-use Rattle.sand_model.proofs.Bounds.{at_most_sum_below}
-use Rattle.sand_model.proofs.EquivalenceIsLinear.{equivalent_sym}
-use Rattle.sand_model.proofs.Flow.{flow-add, flow-scale}
-use Rattle.sand_model.proofs.Sandpile.{settled_stable}
-use Rattle.sand_settle.specs.Settling.{SettledView, odometer_of}
+use Rattle.sand_group.proofs.Common.{ℕ, ◌≡◌, ◌+◌, ◌*◌, ◌^◌, ◌<◌, ◌≤◌, ◌∙◌, refl, ap, arith, List, length, get_or, replicate, ℤ, pos, ◌+ℤ◌, ◌-ℤ◌, ints, get_or-replicate, get_or_default, Grid, sites, whole, PileView, height_of, at_most_sum_below, equivalent_sym, flow-add, flow-scale, settled_stable, SettledView, odometer_of, Represents, integer_at, IsFired, IsFiredToRecurrent, IsSuperstableOf}
 use Rattle.sand_settle.proofs.OneRecord.{record_by_site}
-use Rattle.sand_group.specs.Group.{Represents}
-use Rattle.sand_group.specs.Classes.{integer_at, IsFired, IsFiredToRecurrent, IsSuperstableOf}
 use Rattle.sand_group.specs.Reaching.{IsShortRecord, IsReached, times_up, times_down}
 use Rattle.sand_group.specs.declared.reaching.Reached.{Reached}
 use Rattle.sand_group.proofs.FiringVectors.{laplacian-difference, fired_equivalent}

@@ -2,17 +2,8 @@
 --
 -- If they differ by the topplings z, split z into its part p above 0 and its part q below 0. If p is not 0, the sites
 -- where it is greatest are forbidden in the second pile. So p is 0, and in the same way q is 0.
-use Rattle.std.proofs.Common.{ℕ, eqb, ◌≡◌, ◌+◌, ◌-◌, ◌*◌, ◌<◌, inl, inr, sym, arith}
-use Rattle.std.specs.Prelude.{ℤ, pos, ◌-ℤ◌}
-use Rattle.std.proofs.lemmas.Int.{ints}
-use Rattle.std.proofs.lemmas.Bool.{cases_lt}
-use Rattle.sand_model.specs.Grid.{Grid, sites}
-use Rattle.sand_model.specs.Sand.{flow, IsStable}
-use Rattle.sand_model.specs.Integers.{laplacian, whole, IsEquivalent}
-use Rattle.sand_model.proofs.Flow.{flow_same, flow-add}
+use Rattle.sand_group.proofs.Common.{ℕ, eqb, ◌≡◌, ◌+◌, ◌-◌, ◌*◌, ◌<◌, inl, inr, sym, arith, ℤ, pos, ◌-ℤ◌, ints, cases_lt, Grid, sites, flow, IsStable, laplacian, whole, IsEquivalent, flow_same, flow-add, above, below, laplacian-parts, IsRecurrent}
 use Rattle.sand_model.proofs.SettledIfTight.{greatest, top_is_forbidden}
-use Rattle.sand_model.proofs.OverIntegers.{above, below, laplacian-parts}
-use Rattle.sand_group.specs.Recurrence.{IsRecurrent}
 
 -- how far z is above 0, and how far below
 abbrev over : (ℕ → ℤ) → ℕ → ℕ
@@ -21,6 +12,7 @@ over z i = above (z i) - below (z i)
 abbrev under : (ℕ → ℤ) → ℕ → ℕ
 under z i = below (z i) - above (z i)
 
+-- c - d = Lz, without subtraction
 balance_of_parts : (g : Grid) (c d : ℕ → ℕ) (z : ℕ → ℤ) (i : ℕ)
     → i < sites g → (pos (c i) -ℤ pos (d i)) ≡ laplacian g z i
     → c i + 4 * under z i + flow g (over z) i ≡ d i + 4 * over z i + flow g (under z) i

@@ -4,17 +4,9 @@
 -- site of F toppled, toppling each of them once less also stabilises m + a, although u is the least. A site of F that
 -- did not topple still has height 3: all four of its neighbours are in F, and none of them toppled. Its northern
 -- neighbour is another such site; but there is no endless way north.
-use Rattle.std.proofs.Common.{ℕ, zero, suc, Bool, true, ◌≡◌, ◌+◌, ◌-◌, ◌<◌, ◌≤◌, ap, arith, Some}
-use Rattle.std.proofs.lemmas.Bool.{ltb-true}
-use Rattle.sand_model.specs.Grid.{Grid, sites, north}
-use Rattle.sand_model.specs.Sand.{flow, value_at, IsToppled, IsSettled}
-use Rattle.sand_model.proofs.Flow.{count_is_flow}
-use Rattle.sand_model.proofs.Sandpile.{settled_stable}
-use Rattle.sand_model.proofs.Neighbours.{flow_four, some_width, some_from, row_above}
+use Rattle.sand_group.proofs.Common.{ℕ, zero, suc, Bool, true, ◌≡◌, ◌+◌, ◌-◌, ◌<◌, ◌≤◌, ap, arith, Some, ltb-true, Grid, sites, flow, value_at, IsToppled, IsSettled, count_is_flow, settled_stable, flow_four, some_width, some_from, row_above, IsRecurrent, IsForbidden, flow_at_most_four, north_of_four}
+use Rattle.sand_model.specs.Grid.{north}
 use Rattle.sand_certify.proofs.TurnsOfOdometer.{tight_if_settled}
-use Rattle.sand_group.specs.Recurrence.{IsRecurrent}
-use Rattle.sand_model.specs.Forbidden.{IsForbidden}
-use Rattle.sand_model.proofs.NeighboursInSets.{flow_at_most_four, north_of_four}
 
 north_before : (g : Grid) (i j : ℕ) → i < sites g → north g i ≡ Some j → j < i
 unfolding north

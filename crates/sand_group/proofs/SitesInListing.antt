@@ -1,15 +1,5 @@
 -- Lists of the sites that pass a test: whether a site is in one, and that an ascending list stays ascending.
-use Rattle.std.proofs.Common.{ℕ, Bool, true, not, ◌≡◌, ◌+◌, ◌<◌, ◌≤◌, ap, arith, List, [], ◌∷◌, ◌++◌, length, All, ⊎_elim}
-use Rattle.std.specs.List.Sorted.{IsStrictlyIncreasing}
-use Rattle.std.proofs.lemmas.Bool.{cases_lt, cases_Bool, le-ltb}
-use Rattle.std.proofs.lemmas.Bool.Decides.{nat_tests}
-use Rattle.std.proofs.lemmas.List.{length_push, get_or_append_left, get_or_push}
-use Rattle.std.proofs.lemmas.List.Elements.{All-get_or}
-use Rattle.sand_model.specs.Sand.{occurrences}
-use Rattle.sand_model.specs.Lists.{Lists}
-use Rattle.sand_model.proofs.Lists.{listed, unlisted}
-use Rattle.sand_group.specs.Recurrence.{is_in}
-use Rattle.sand_group.specs.Fire.{is_out}
+use Rattle.sand_group.proofs.Common.{ℕ, Bool, true, not, ◌≡◌, ◌+◌, ◌<◌, ◌≤◌, ap, arith, List, [], ◌∷◌, ◌++◌, length, All, ⊎_elim, IsStrictlyIncreasing, cases_lt, cases_Bool, le-ltb, nat_tests, length_push, get_or_append_left, get_or_push, All-get_or, occurrences, Lists, listed, unlisted, is_in, is_out}
 
 pub is_out-none : (xs : List ℕ) (i : ℕ) → occurrences xs i ≡ 0 → is_out xs i ≡ true
 is_out-none xs i none = ap not (le-ltb 0 (occurrences xs i) (omega arith))

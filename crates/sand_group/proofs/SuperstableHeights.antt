@@ -1,14 +1,5 @@
 -- Heights are superstable if and only if they are 3 less a recurrent pile, so each class has exactly one.
-use Rattle.std.proofs.Common.{ℕ, ◌≡◌, ◌+◌, ◌-◌, ◌<◌, ◌≤◌, inl, inr, refl, ap, arith, eqb}
-use Rattle.std.specs.Prelude.{ℤ, pos, negsuc, ◌-ℤ◌, ◌≤ℤ◌, ◌↔◌, unsigned_abs}
-use Rattle.std.proofs.lemmas.Bool.{cases_lt, eq-eqb, eqb-true}
-use Rattle.std.proofs.lemmas.Int.{ints}
-use Rattle.sand_model.specs.Grid.{Grid, sites}
-use Rattle.sand_model.specs.Integers.{whole, IsEquivalent}
-use Rattle.sand_model.proofs.EquivalenceIsLinear.{equivalent_sym, equivalent_same}
-use Rattle.sand_group.specs.Recurrence.{IsRecurrent}
-use Rattle.sand_group.specs.Group.{Represents}
-use Rattle.sand_group.specs.Classes.{IsSuperstable}
+use Rattle.sand_group.proofs.Common.{ℕ, ◌≡◌, ◌+◌, ◌-◌, ◌<◌, ◌≤◌, inl, inr, refl, ap, arith, eqb, ℤ, pos, negsuc, ◌-ℤ◌, ◌≤ℤ◌, ◌↔◌, unsigned_abs, cases_lt, eq-eqb, eqb-true, ints, Grid, sites, whole, IsEquivalent, equivalent_sym, equivalent_same, IsRecurrent, Represents, IsSuperstable}
 use Rattle.sand_group.proofs.OperationsSettle.{class_has_one}
 use Rattle.sand_group.proofs.RecurrentIsUnique.{recurrent_unique}
 

@@ -1,14 +1,8 @@
 -- Why a call that burns a pile refuses it: the pile is unstable, or it is not recurrent, or memory ran out.
-use Rattle.std.proofs.Common.{◌≡◌, ℕ, arith, inl, inr}
-use Rattle.std.specs.Prelude.{◌↔◌, ◌⊎◌, Result, Err, alloc_error}
-use Rattle.std.proofs.lemmas.Bool.{cases_lt}
-use Rattle.sand_model.specs.Grid.{Grid}
-use Rattle.sand_model.specs.Piles.{PileView, height_of}
-use Rattle.sand_model.specs.Sand.{IsStable}
+use Rattle.sand_group.proofs.Common.{◌≡◌, ℕ, arith, inl, inr, ◌↔◌, ◌⊎◌, Result, Err, alloc_error, cases_lt, Grid, PileView, height_of, IsStable, IsRecurrent}
 use Rattle.sand_group.specs.declared.faults.GroupFault.{GroupFault}
 use Rattle.sand_group.specs.declared.faults.GroupFault.TheVariants as group
 use Rattle.sand_group.specs.Faults.{IsRefusal}
-use Rattle.sand_group.specs.Recurrence.{IsRecurrent}
 
 -- a pile that cannot be unstable is stable
 pub stable : (g : Grid) (s : ℕ → ℕ) → ((IsStable g s → ⊥) → ⊥) → IsStable g s

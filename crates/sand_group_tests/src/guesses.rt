@@ -1,44 +1,61 @@
-//! What no contract says: that a claim is made, by a guess or on tiles, and is right for small piles; and which piles
-//! count as high or flat.
+//! What no contract says: that a claim is made, by a guess, on tiles or by sweeps, and is right for small piles; and
+//! which piles count as high or flat.
 
 use crate::piles::{pile_on, row};
-use sand_guess::{guessed, guessed_identity, is_flat, is_high, toppled};
+use sand_guess::{guessed, guessed_identity, is_flat, is_high, swept, toppled};
 use sand_model::{Edge, Pile, Shape};
 use std::alloc::Global;
 use std::test::Fail;
 
-// Whether a claim for a pile in one row has these counts, by a guess or on tiles.
+#[derive(Clone, Copy, Debug)]
+enum Way {
+    Guess,
+    Tiles,
+    Sweeps,
+}
+
+// Whether a claim for a pile in one row has these counts.
 fn is_claimed(
     alloc: Global,
+    way: Way,
     edge: Edge,
     heights: &[u64],
     counts: &[u64],
-    by_guess: bool,
 ) -> Option<bool> {
     let pile = pile_on(alloc, heights.len(), 1, edge, heights)?;
-    let claim = if by_guess {
-        guessed(alloc, &pile)
-    } else {
-        toppled(alloc, &pile)
+    let claim = match way {
+        Way::Guess => guessed(alloc, &pile),
+        Way::Tiles => toppled(alloc, &pile),
+        Way::Sweeps => swept(alloc, &pile),
     };
     Some(claim.ok()??.counts.as_slice() == counts)
 }
 
 #[test]
 fn claims_by_hand(rt: HostRuntime) {
-    for (by_guess, edge, heights, counts) in [
-        (true, Edge::Open, [0, 4, 0].as_slice(), [0, 1, 0].as_slice()),
-        (true, Edge::Cylinder, &[4, 4, 4], &[1, 1, 1]),
-        (true, Edge::Open, &[1_099_511_627_775], &[274_877_906_943]),
-        (false, Edge::Open, &[0, 4, 0], &[0, 1, 0]),
-        (false, Edge::Cylinder, &[4, 4, 4], &[1, 1, 1]),
-        (false, Edge::Open, &[100], &[25]),
+    for (way, edge, heights, counts) in [
+        (
+            Way::Guess,
+            Edge::Open,
+            [0, 4, 0].as_slice(),
+            [0, 1, 0].as_slice(),
+        ),
+        (Way::Guess, Edge::Cylinder, &[4, 4, 4], &[1, 1, 1]),
+        (
+            Way::Guess,
+            Edge::Open,
+            &[1_099_511_627_775],
+            &[274_877_906_943],
+        ),
+        (Way::Tiles, Edge::Open, &[0, 4, 0], &[0, 1, 0]),
+        (Way::Tiles, Edge::Cylinder, &[4, 4, 4], &[1, 1, 1]),
+        (Way::Tiles, Edge::Open, &[100], &[25]),
+        (Way::Sweeps, Edge::Open, &[0, 4, 0], &[0, 1, 0]),
+        (Way::Sweeps, Edge::Cylinder, &[4, 4, 4], &[1, 1, 1]),
+        (Way::Sweeps, Edge::Open, &[100], &[25]),
     ] {
-        let is_claimed = is_claimed(rt.alloc(), edge, heights, counts, by_guess);
-        assert!(rt;
-            is_claimed == Some(true),
-            "{counts:?}, by a guess: {by_guess}"
-        );
+        let is_claimed = is_claimed(rt.alloc(), way, edge, heights, counts);
+        assert!(rt; is_claimed == Some(true), "{counts:?}: {way:?}");
     }
 }
 

@@ -1,11 +1,11 @@
-//! Guesses are made and accepted for piles of all shapes, edges and heights, and so are claims by tiles for flat
-//! piles.
+//! Guesses are made and accepted for piles of all shapes, edges and heights, and so are claims by tiles for flat piles
+//! and by sweeps for small ones.
 
 ghost use Rattle.std.specs.Prelude.{◌<◌};
 
 use crate::piles::pile_on;
 use sand_certify::certified;
-use sand_guess::{Claim, guessed, is_flat, toppled};
+use sand_guess::{Claim, guessed, is_flat, is_small, swept, toppled};
 use sand_model::{Edge, Pile};
 use std::alloc::Global;
 
@@ -101,10 +101,14 @@ fn left_by_tiles(alloc: Global, pile: &Pile) -> Option<Vec<u64>> {
     left_by(alloc, pile, toppled(alloc, pile).ok()??)
 }
 
+fn left_by_sweeps(alloc: Global, pile: &Pile) -> Option<Vec<u64>> {
+    left_by(alloc, pile, swept(alloc, pile).ok()??)
+}
+
 #[test]
 fn claims_for_many_piles_are_accepted(rt: HostRuntime) {
     let mut numbers = Numbers(88_172_645_463_325_252);
-    let (mut piles, mut flat) = (0u64, 0u64);
+    let (mut piles, mut flat, mut small) = (0u64, 0u64, 0u64);
     for _ in 0..PILES {
         if let Some(pile) = numbers.pile(rt.alloc()) {
             assert!(rt; left_by_guess(rt.alloc(), &pile).is_some());
@@ -113,7 +117,14 @@ fn claims_for_many_piles_are_accepted(rt: HostRuntime) {
             if is_flat(&pile) && left_by_tiles(rt.alloc(), &pile).is_some() {
                 flat = flat.saturating_add(1);
             }
+            if is_small(pile.shape(), pile.grains()) {
+                assert!(rt; left_by_sweeps(rt.alloc(), &pile).is_some());
+                small = small.saturating_add(1);
+            }
         }
     }
-    assert!(rt; piles >= 300 && flat >= 100, "{piles}, {flat} of them flat");
+    assert!(rt;
+        piles >= 300 && flat >= 100 && small >= 20,
+        "{piles}, {flat} of them flat, {small} small"
+    );
 }

@@ -1,8 +1,7 @@
 //! Guesses how often each site of a pile topples: fast and, so far as anyone has seen, right.
 //!
 //! Nothing here is proved right: each function is proved to be safe and to return, and that is all. A wrong guess costs
-//! time and never changes a result, since a guess is used only if it is certified (`sand_certify`). Otherwise sand
-//! topples.
+//! time and never changes a result, since a guess is used only if it is certified (`sand_certify`).
 //!
 //! The method is that of Friedrich and Levine 2013, "Fast simulation of large-scale growth models". If the settled
 //! heights t were known, the counts u would solve Lu = s - t. Averaged over some sites, t has nearly the density of a
@@ -15,13 +14,12 @@
 //! 4. `density`: local means of the resulting heights predict the density for the pile of twice the size.
 //!
 //! The identity of the group of recurrent piles is guessed in the same way, from the empty pile (`claim`). `forecast`
-//! finds, without a solve, whether a pile is so high that a guess is faster than toppling.
+//! finds, without a solve, whether a pile is so high that a guess is faster than toppling. `sweeps` topples small piles.
 //!
 //! A loop over several lists runs over indices, up to the shortest list. The prover takes three to six times as long
 //! for zipped iterators, and the compiled loop is the same.
 #![tactic(auto)]
 
-mod cells;
 mod claim;
 mod density;
 mod forecast;
@@ -33,8 +31,10 @@ mod repair;
 mod residual;
 mod rows;
 mod solver;
+mod sweeps;
 mod tile;
 mod tiles;
 
 pub use claim::{Claim, guessed, guessed_identity, toppled};
 pub use forecast::{is_flat, is_high};
+pub use sweeps::{is_small, swept};

@@ -1,39 +1,166 @@
-//! Where the tiles of a grid are, and which are side by side.
+//! A tile in its place on the grid: its sites, the tiles beside it, and which of its sites burn.
 //!
 //! Tiles are numbered row by row. Around those with sites is a border of tiles without, which spares tests for the edge
 //! of the grid: what falls there is never read.
 
 ghost use Rattle.std.specs.Prelude.{◌≤◌, ◌<◌};
 
-use crate::tile::{COLUMNS, ROWS};
+use crate::rows::{run, run_mut};
+use crate::tile::{COLUMNS, LEVEL, ROUNDS, ROWS, Tile, is_any};
 use sand_model::{Edge, Shape};
 use std::alloc::{AllocError, Global};
 use std::simd::prelude::*;
 
-/// The place of a tile.
-#[derive(Clone, Copy)]
+/// A tile in its place.
+#[derive(Drop)]
 pub(crate) struct Place {
     /// The site in its first row and column, if it has sites, and the number of columns with sites.
     corner: usize,
-    pub(crate) columns: usize,
+    columns: usize,
     /// The number of sites in a row of the grid.
     width: usize,
-    pub(crate) sites: u16x8,
     /// Its places outside the grid that are next to sites, in it or in another tile.
-    pub(crate) sinks: u16x8,
+    sinks: u16x8,
     /// The tiles to the west and to the east.
     pub(crate) west: usize,
     pub(crate) east: usize,
     /// The bit of the last column of the tile to the west, and of the last one that is next to the tile to the east.
     pub(crate) west_end: u16,
     pub(crate) east_end: u16,
+    pub(crate) tile: Tile,
+    /// The sites that have toppled, and of these the ones that the last fire did not burn.
+    marks: u16x8,
+    pub(crate) unburnt: u16x8,
+}
+
+// The columns in which this bit of a number less `base` is set.
+#[inline(always)]
+fn bits_of(numbers: &[i64], base: i64, bit: u32) -> u16 {
+    let mut bits = 0u16;
+    for x in 0..numbers.len().min(COLUMNS) {
+        let number = numbers[x].wrapping_sub(base).cast_unsigned();
+        let is_set = number.wrapping_shr(bit) & 1 != 0;
+        bits |= u16::from(is_set) << x;
+    }
+    bits
+}
+
+// Adds a number at the columns of a set.
+#[inline(always)]
+fn add_bits(sums: &mut [i64], bits: u16, number: i64) {
+    let mut rest = bits;
+    for _ in 0..COLUMNS {
+        if rest == 0 {
+            break;
+        }
+        if let Some(sum) = sums.get_mut(rest.trailing_zeros() as usize) {
+            *sum = sum.wrapping_add(number);
+        }
+        rest &= rest.wrapping_sub(1);
+    }
+}
+
+// Writes a number at the columns of a set.
+#[inline(always)]
+fn put_bits(list: &mut [u32], bits: u16, number: u32) {
+    let mut rest = bits;
+    for _ in 0..COLUMNS {
+        if rest == 0 {
+            break;
+        }
+        if let Some(item) = list.get_mut(rest.trailing_zeros() as usize) {
+            *item = number;
+        }
+        rest &= rest.wrapping_sub(1);
+    }
 }
 
 impl Place {
-    /// The site in the first column of a row.
+    // The site in the first column of a row.
     #[inline(always)]
-    pub(crate) fn first_in(&self, row: usize) -> usize {
+    fn first_in(&self, row: usize) -> usize {
         self.corner.wrapping_add(row.wrapping_mul(self.width))
+    }
+
+    // The sites at which this bit of a number less `base` is set.
+    #[inline(always)]
+    fn sites_with(&self, list: &[i64], base: i64, bit: u32) -> u16x8 {
+        let mut rows = [0u16; ROWS];
+        for row in 0..ROWS {
+            let numbers = run(list, self.first_in(row), self.columns);
+            rows[row] = bits_of(numbers, base, bit);
+        }
+        u16x8::from_array(rows)
+    }
+
+    /// Adds a number at the sites of a set of places.
+    pub(crate) fn add_where(&self, sums: &mut [i64], set: u16x8, number: i64) {
+        let rows = set.to_array();
+        for row in 0..ROWS {
+            if rows[row] != 0 {
+                let numbers = run_mut(sums, self.first_in(row), self.columns);
+                add_bits(numbers, rows[row], number);
+            }
+        }
+    }
+
+    /// Loads heights.
+    pub(crate) fn put(&mut self, heights: &[i64]) {
+        self.tile.low = self.sites_with(heights, -LEVEL, 0);
+        self.tile.high = self.sites_with(heights, -LEVEL, 1);
+        self.tile.four = self.sites_with(heights, -LEVEL, 2);
+        self.tile.due = self.sites_with(heights, -LEVEL, 3);
+    }
+
+    /// Marks the sites with counts above the least.
+    pub(crate) fn mark(&mut self, counts: &[i64], least: i64) {
+        let others = self.sites_with(counts, least.wrapping_add(1), 63);
+        self.marks = self.tile.sites & !others;
+    }
+
+    /// The places that topple first in a fire: sinks, and sites that are not marked.
+    #[inline(always)]
+    pub(crate) fn kindling(&self) -> u16x8 {
+        self.sinks | self.tile.sites & !self.marks
+    }
+
+    /// Takes back a toppling of each marked site that did not burn, and returns whether there are any.
+    pub(crate) fn end_fire(&mut self, burnt: u16x8, counts: &mut [i64], least: i64) -> bool {
+        self.unburnt = self.marks & !burnt;
+        let is_left = is_any(self.unburnt);
+        if is_left {
+            self.add_where(counts, self.unburnt, -1);
+            self.mark(counts, least);
+        }
+        is_left
+    }
+
+    // Writes a turn at the sites of a set of places.
+    fn put_turn(&self, turns: &mut [u32], set: u16x8, turn: u32) {
+        let rows = set.to_array();
+        for row in 0..ROWS {
+            let list = run_mut(turns, self.first_in(row), self.columns);
+            put_bits(list, rows[row], turn);
+        }
+    }
+
+    /// Topples what may topple, once each, and returns it. Writes by site the turn at which it does, from the one after
+    /// `turn` on.
+    pub(crate) fn visit_in_turns(&mut self, turns: &mut [u32], turn: &mut u32) -> u16x8 {
+        let mut toppled = u16x8::splat(0);
+        for _ in 0..ROUNDS {
+            let due = self.tile.due & !toppled;
+            if !is_any(due) {
+                break;
+            }
+            let [first, second] = self.tile.topple(due, toppled);
+            toppled |= due | first | second;
+            self.put_turn(turns, due, turn.wrapping_add(1));
+            self.put_turn(turns, first, turn.wrapping_add(2));
+            self.put_turn(turns, second, turn.wrapping_add(3));
+            *turn = turn.wrapping_add(3);
+        }
+        toppled
     }
 }
 
@@ -65,46 +192,43 @@ fn rectangle(columns: usize, rows: usize) -> u16x8
     u16x8::from_array(all)
 }
 
-// The place of the tile in row y and column x.
+// The tile in row y and column x, empty.
 fn place_of(shape: Shape, x: usize, y: usize) -> Place {
     let across = shape.width().div_ceil(COLUMNS);
     let row = y.wrapping_mul(pitch_of(shape));
-    let k = row.wrapping_add(x);
     let columns = span(shape.width(), x, COLUMNS);
     let sites = rectangle(columns, span(shape.height(), y, ROWS));
     let is_round = shape.edge() == Edge::Cylinder;
     let seam = 1u16 << (shape.width() - 1) % COLUMNS;
     let (is_first, is_last) = (is_round && x == 1, is_round && x == across);
-    let up = y
-        .wrapping_sub(1)
-        .wrapping_mul(ROWS)
-        .wrapping_mul(shape.width());
+    let all = rectangle(if is_round { columns } else { COLUMNS }, ROWS);
+    let west = if is_first { across } else { x.wrapping_sub(1) };
+    let east = if is_last { 1 } else { x.wrapping_add(1) };
+    let above = y.wrapping_sub(1).wrapping_mul(ROWS);
+    let before = x.wrapping_sub(1).wrapping_mul(COLUMNS);
+    let none = u16x8::splat(0);
     Place {
-        corner: up.wrapping_add(x.wrapping_sub(1).wrapping_mul(COLUMNS)),
+        corner: above.wrapping_mul(shape.width()).wrapping_add(before),
         columns,
         width: shape.width(),
-        sites,
-        sinks: if is_round {
-            rectangle(columns, ROWS) & !sites
-        } else {
-            !sites
-        },
-        west: if is_first {
-            row.wrapping_add(across)
-        } else {
-            k.wrapping_sub(1)
-        },
-        east: if is_last {
-            row.wrapping_add(1)
-        } else {
-            k.wrapping_add(1)
-        },
+        sinks: all & !sites,
+        west: row.wrapping_add(west),
+        east: row.wrapping_add(east),
         west_end: if is_first { seam } else { 0x8000 },
         east_end: if is_last { seam } else { 0x8000 },
+        tile: Tile {
+            low: none,
+            high: none,
+            four: none,
+            due: none,
+            sites,
+        },
+        marks: none,
+        unburnt: none,
     }
 }
 
-/// The places of all tiles.
+/// All tiles of a grid, empty.
 pub(crate) fn places_of(alloc: Global, shape: Shape) -> Result<Vec<Place>, AllocError> {
     let pitch = pitch_of(shape);
     let all = pitch * (shape.height().div_ceil(ROWS) + 2);

@@ -10,11 +10,9 @@
 
 ghost use Rattle.std.specs.Prelude.{◌≤◌, ◌<◌};
 
-use crate::cells::{add_where, marks_of, put_bits, tile_of};
 use crate::density::numbers_of;
 use crate::places::{Place, pitch_of, places_of};
-use crate::rows::run_mut;
-use crate::tile::{LEVEL, ROUNDS, ROWS, Tile, is_any};
+use crate::tile::{LEVEL, ROUNDS, is_any};
 use sand_model::Shape;
 use std::alloc::{AllocError, Global};
 use std::mem;
@@ -38,60 +36,19 @@ pub(crate) fn has_room(height: i64) -> bool {
     height.wrapping_add(LEVEL).cast_unsigned() <= MOST
 }
 
-/// The tiles that wait for a visit, each of them once: first in, first out.
-#[derive(Drop)]
-struct Queue {
-    /// A ring of `ROOM` places.
-    slots: Vec<usize>,
-    head: usize,
-    tail: usize,
-}
-
-impl Queue {
-    fn new(alloc: Global) -> Result<Queue, AllocError> {
-        Ok(Queue {
-            slots: vec![in alloc; 0usize; ROOM]?,
-            head: 0,
-            tail: 0,
-        })
-    }
-
-    #[inline(always)]
-    fn push_if(&mut self, k: usize, test: bool) {
-        let last = self.slots.len().wrapping_sub(1);
-        if let Some(slot) = self.slots.get_mut(self.tail & last) {
-            *slot = k;
-        }
-        self.tail = self.tail.wrapping_add(usize::from(test));
-    }
-
-    #[inline(always)]
-    fn pop(&mut self) -> Option<usize> {
-        if self.head == self.tail {
-            return None;
-        }
-        let last = self.slots.len().wrapping_sub(1);
-        let k = self.slots.get(self.head & last).copied();
-        self.head = self.head.wrapping_add(1);
-        k
-    }
-}
-
 /// The tiles of a grid.
 #[derive(Drop)]
 pub(crate) struct Tiles {
-    shape: Shape,
     /// The number of tiles in a row.
     pitch: usize,
     places: Vec<Place>,
-    tiles: Vec<Tile>,
-    /// By tile, how often each place toppled.
+    /// By tile, how often each place toppled: a plane for each bit of the count.
     counts: Vec<[u16x8; PLANES]>,
-    /// By tile, the sites that have toppled, and of these the ones that the last fire did not burn.
-    marks: Vec<u16x8>,
-    unburnt: Vec<u16x8>,
-    queue: Queue,
-    /// The turns at which sites burn, if they are asked for, and the last of them.
+    /// The tiles that wait for a visit, each of them once, first in, first out: a ring of `ROOM` places.
+    waiting: Vec<usize>,
+    head: usize,
+    tail: usize,
+    /// By site, the turn at which it burns, if that is asked for, and the last turn.
     turns: Vec<u32>,
     turn: u32,
 }
@@ -110,48 +67,73 @@ fn count_up(counts: &mut [u16x8; PLANES], set: u16x8) {
     }
 }
 
+// Adds counts, a plane for each bit, to numbers by site.
+fn add_planes(place: &Place, sums: &mut [i64], planes: [u16x8; PLANES]) {
+    let mut number = 1i64;
+    for set in planes {
+        if is_any(set) {
+            place.add_where(sums, set, number);
+        }
+        number = number.wrapping_mul(2);
+    }
+}
+
 impl Tiles {
     pub(crate) fn new(alloc: Global, shape: Shape) -> Result<Tiles, AllocError> {
         let places = places_of(alloc, shape)?;
-        let n = places.len();
-        let none = u16x8::splat(0);
-        let bare = Tile {
-            low: none,
-            high: none,
-            four: none,
-            due: none,
-            sites: none,
-        };
+        let counts = vec![in alloc; [u16x8::splat(0); PLANES]; places.len()]?;
         Ok(Tiles {
-            shape,
             pitch: pitch_of(shape),
             places,
-            tiles: vec![in alloc; bare; n]?,
-            counts: vec![in alloc; [none; PLANES]; n]?,
-            marks: vec![in alloc; none; n]?,
-            unburnt: vec![in alloc; none; n]?,
-            queue: Queue::new(alloc)?,
+            counts,
+            waiting: vec![in alloc; 0usize; ROOM]?,
+            head: 0,
+            tail: 0,
             turns: Vec::new(alloc),
             turn: 0,
         })
     }
 
+    // Has a tile wait, if a test is true.
+    #[inline(always)]
+    fn wait_if(&mut self, k: usize, test: bool) {
+        let last = self.waiting.len().wrapping_sub(1);
+        if let Some(slot) = self.waiting.get_mut(self.tail & last) {
+            *slot = k;
+        }
+        self.tail = self.tail.wrapping_add(usize::from(test));
+    }
+
+    // The tile that has waited longest, which is then visited.
+    #[inline(always)]
+    fn next(&mut self) -> Option<usize> {
+        if self.head == self.tail {
+            return None;
+        }
+        let last = self.waiting.len().wrapping_sub(1);
+        let k = self.waiting.get(self.head & last).copied();
+        self.head = self.head.wrapping_add(1);
+        k
+    }
+
     /// Loads heights. The tiles have room for all of them.
     pub(crate) fn put(&mut self, heights: &[i64]) {
-        self.queue.tail = self.queue.head;
-        for k in 0..self.places.len().min(self.tiles.len()) {
-            let tile = tile_of(&self.places[k], heights);
-            self.tiles[k] = tile;
-            self.queue.push_if(k, is_any(tile.due));
+        self.tail = self.head;
+        for k in 0..self.places.len() {
+            if let Some(place) = self.places.get_mut(k) {
+                place.put(heights);
+                let is_due = is_any(place.tile.due);
+                self.wait_if(k, is_due);
+            }
         }
     }
 
     // Adds a grain at each place of a set.
     #[inline(always)]
     fn gain(&mut self, k: usize, set: u16x8) {
-        if let Some(tile) = self.tiles.get_mut(k) {
-            let is_new = tile.gain(set);
-            self.queue.push_if(k, is_new);
+        if let Some(place) = self.places.get_mut(k) {
+            let is_new = place.tile.gain(set);
+            self.wait_if(k, is_new);
         }
     }
 
@@ -173,170 +155,87 @@ impl Tiles {
         self.gain(east, to_east);
     }
 
-    // Visits a tile, and writes the turns of the sites that topple.
-    fn visit_in_turns(&mut self, k: usize) -> u16x8 {
-        let mut toppled = u16x8::splat(0);
-        for _ in 0..ROUNDS {
-            let Some(tile) = self.tiles.get_mut(k) else {
-                break;
-            };
-            let due = tile.due & !toppled;
-            if !is_any(due) {
-                break;
-            }
-            let [first, second] = tile.topple(due, toppled);
-            toppled |= due | first | second;
-            self.put_turns(k, due);
-            self.put_turns(k, first);
-            self.put_turns(k, second);
-        }
-        toppled
-    }
-
-    // Writes the next turn, of a set of places.
-    fn put_turns(&mut self, k: usize, set: u16x8) {
-        self.turn = self.turn.wrapping_add(1);
-        let rows = set.to_array();
-        if let Some(place) = self.places.get(k) {
-            for row in 0..ROWS {
-                let cells = run_mut(&mut self.turns, place.first_in(row), place.columns);
-                put_bits(cells, rows[row], self.turn);
-            }
-        }
-    }
-
     // Topples the sites of a tile that may topple, and counts them.
     #[inline(always)]
     fn visit(&mut self, k: usize) {
-        let toppled = if self.turns.is_empty() {
-            self.tiles
-                .get_mut(k)
-                .map_or(u16x8::splat(0), |tile| tile.visit())
-        } else {
-            self.visit_in_turns(k)
+        let Some(place) = self.places.get_mut(k) else {
+            return;
         };
+        let toppled = if self.turns.is_empty() {
+            place.tile.visit()
+        } else {
+            place.visit_in_turns(&mut self.turns, &mut self.turn)
+        };
+        let is_due = is_any(place.tile.due);
+        self.wait_if(k, is_due);
         if k < self.counts.len() {
             count_up(&mut self.counts[k], toppled);
         }
-        let is_due = self.tiles.get(k).is_some_and(|tile| is_any(tile.due));
-        self.queue.push_if(k, is_due);
         self.hand_over(k, toppled);
     }
 
-    // Topples until no tile waits, and returns whether this number of visits was enough.
+    // Topples until no tile waits, and returns whether this number of visits for each tile was enough.
     fn topple_waiting(&mut self, visits: usize) -> bool {
-        for _ in 0..visits {
-            let Some(k) = self.queue.pop() else {
+        for _ in 0..visits.wrapping_mul(self.places.len()) {
+            let Some(k) = self.next() else {
                 return true;
             };
             self.visit(k);
         }
-        self.queue.head == self.queue.tail
+        self.head == self.tail
     }
 
     /// Topples until no site may topple, and returns whether this number of visits for each tile was enough.
     pub(crate) fn topple(&mut self, counts: &mut [i64], visits: usize) -> bool {
-        let all = self.tiles.len();
-        let is_stable = self.topple_waiting(visits.wrapping_mul(all));
-        for k in 0..self.counts.len() {
-            self.read_counts(k, counts);
+        let is_stable = self.topple_waiting(visits);
+        for k in 0..self.places.len().min(self.counts.len()) {
+            add_planes(&self.places[k], counts, self.counts[k]);
+            self.counts[k] = [u16x8::splat(0); PLANES];
         }
         is_stable
     }
 
-    // Adds the counts of a tile to numbers by site, and clears them.
-    fn read_counts(&mut self, k: usize, counts: &mut [i64]) {
-        if k >= self.counts.len() {
-            return;
-        }
-        let planes = self.counts[k];
-        self.counts[k] = [u16x8::splat(0); PLANES];
-        let Some(place) = self.places.get(k) else {
-            return;
-        };
-        let mut number = 1i64;
-        for set in planes {
-            if is_any(set) {
-                add_where(place, counts, set, number);
-            }
-            number = number.wrapping_mul(2);
-        }
-    }
-
-    // The places of a tile that topple first in a fire: sinks, and sites that are not marked.
-    #[inline(always)]
-    fn kindling(&self, k: usize) -> u16x8 {
-        match (self.places.get(k), self.marks.get(k)) {
-            (Some(place), Some(marks)) => place.sinks | place.sites & !*marks,
-            _ => u16x8::splat(0),
-        }
-    }
-
-    // The kindling pays for what it will give.
-    fn pay(&mut self) {
-        for k in 0..self.tiles.len() {
-            let kindling = self.kindling(k);
-            if let Some(tile) = self.tiles.get_mut(k) {
-                tile.four &= !kindling;
-            }
-        }
-    }
-
-    // The kindling gives grains to its neighbours.
+    // The kindling gives grains to its neighbours. It has paid for them.
     fn kindle(&mut self) {
-        for k in 0..self.tiles.len() {
-            let kindling = self.kindling(k);
-            if let Some(tile) = self.tiles.get_mut(k) {
-                let was_due = is_any(tile.due);
-                tile.give(kindling, u16x8::splat(0));
-                let is_new = !was_due & is_any(tile.due);
-                self.queue.push_if(k, is_new);
+        for k in 0..self.places.len() {
+            if let Some(place) = self.places.get_mut(k) {
+                let kindling = place.kindling();
+                let was_due = is_any(place.tile.due);
+                place.tile.give(kindling, u16x8::splat(0));
+                let is_new = !was_due & is_any(place.tile.due);
+                self.wait_if(k, is_new);
+                self.hand_over(k, kindling);
             }
-            self.hand_over(k, kindling);
         }
     }
 
-    // Finds the marked sites that did not burn, and returns whether there are any. What burns topples once, so the
-    // first plane of the counts has all that did.
-    fn end_fire(&mut self) -> bool {
+    // Takes back a toppling of each marked site that did not burn, and returns whether there are any. What burns
+    // topples once, so the first plane of the counts has all that did.
+    fn end_fire(&mut self, counts: &mut [i64], least: i64) -> bool {
         let mut is_left = false;
-        let n = self.unburnt.len().min(self.marks.len());
-        for k in 0..n.min(self.counts.len()) {
+        for k in 0..self.places.len().min(self.counts.len()) {
             let [burnt, ..] = self.counts[k];
             self.counts[k] = [u16x8::splat(0); PLANES];
-            self.unburnt[k] = self.marks[k] & !burnt;
-            is_left |= is_any(self.unburnt[k]);
+            is_left |= self.places[k].end_fire(burnt, counts, least);
         }
         is_left
     }
 
-    // Burns the marked sites, and returns whether some do not burn.
-    fn burn(&mut self) -> bool {
-        self.pay();
+    // Burns the marked sites, takes back a toppling of those that do not burn, and returns whether there are any.
+    fn burn(&mut self, counts: &mut [i64], least: i64) -> bool {
+        for place in &mut self.places {
+            let kindling = place.kindling();
+            place.tile.four &= !kindling;
+        }
         self.kindle();
-        let all = self.tiles.len();
-        self.topple_waiting(all.wrapping_mul(ROUNDS));
-        self.end_fire()
+        self.topple_waiting(ROUNDS);
+        self.end_fire(counts, least)
     }
 
     // Marks the sites with counts above the least.
     fn mark(&mut self, counts: &[i64], least: i64) {
-        for k in 0..self.marks.len().min(self.places.len()) {
-            self.marks[k] = marks_of(&self.places[k], counts, least);
-        }
-    }
-
-    // Takes back a toppling of each site that did not burn.
-    fn untopple(&mut self, counts: &mut [i64], least: i64) {
-        let n = self.unburnt.len().min(self.marks.len());
-        for k in 0..n.min(self.places.len()) {
-            let (place, set) = (&self.places[k], self.unburnt[k]);
-            add_where(place, counts, set, -1);
-            self.marks[k] = if is_any(set) {
-                marks_of(place, counts, least)
-            } else {
-                self.marks[k]
-            };
+        for place in &mut self.places {
+            place.mark(counts, least);
         }
     }
 
@@ -346,19 +245,18 @@ impl Tiles {
     pub(crate) fn take_back(&mut self, counts: &mut [i64], least: i64, times: usize) -> bool {
         self.mark(counts, least);
         for _ in 0..times {
-            if !self.burn() {
+            if !self.burn(counts, least) {
                 return true;
             }
-            self.untopple(counts, least);
         }
         false
     }
 
     /// By site, 1 if the last fire did not burn it, and otherwise 0.
-    pub(crate) fn unburnt(&self, alloc: Global) -> Result<Vec<f64>, AllocError> {
-        let mut unburnt = vec![in alloc; 0i64; self.shape.sites()]?;
-        for k in 0..self.unburnt.len().min(self.places.len()) {
-            add_where(&self.places[k], &mut unburnt, self.unburnt[k], 1);
+    pub(crate) fn unburnt(&self, alloc: Global, sites: usize) -> Result<Vec<f64>, AllocError> {
+        let mut unburnt = vec![in alloc; 0i64; sites]?;
+        for place in &self.places {
+            place.add_where(&mut unburnt, place.unburnt, 1);
         }
         numbers_of(alloc, &unburnt)
     }
@@ -367,12 +265,11 @@ impl Tiles {
     pub(crate) fn turns(
         &mut self,
         alloc: Global,
-        counts: &[i64],
-        least: i64,
+        counts: &mut [i64],
     ) -> Result<Vec<u32>, AllocError> {
-        self.turns = vec![in alloc; 0u32; self.shape.sites()]?;
-        self.mark(counts, least);
-        self.burn();
+        self.turns = vec![in alloc; 0u32; counts.len()]?;
+        self.mark(counts, 0);
+        self.burn(counts, 0);
         Ok(mem::replace(&mut self.turns, Vec::new(alloc)))
     }
 }

@@ -1,28 +1,10 @@
 -- What each member of a crew may do, and what it has done afterwards.
-use Rattle.std.proofs.Common.{◌≡◌, ℕ, zero, suc, ◌+◌, ◌-◌, ◌*◌, ◌/◌, ◌<◌, ◌≤◌, List, [], ◌∷◌, All, length, take, drop, sum, sum_by, get_or, refl, sym, ap, ◌∙◌, subst, arith}
-use Rattle.std.specs.Prelude.{slice_index}
+use Rattle.sand_lab.proofs.Common.{◌≡◌, ℕ, zero, suc, ◌+◌, ◌-◌, ◌*◌, ◌/◌, ◌<◌, ◌≤◌, List, [], ◌∷◌, All, length, take, drop, sum, sum_by, get_or, refl, sym, ap, ◌∙◌, subst, arith, slice_index, height_of, get_or-take, get_or-drop, length-replicate, length-take, sum_by-cons, zeros, grid_of_terms, toppled_by, SharedView, PassView, IsPassOf, at_rest, count_of, LeavesAtMost, AllZip, Crew, Dropper, Observer, Wish, Worker, EachAt, band, due, rowless, banded, IsDropper, IsWorker, IsObserver, IsCrew, HasDroppedItsStream, HasSweptItsBand, HasReadItsTallies, HasWorked, CanDrop, CanSweep, CanTally, TookDropTurns, TookSweepTurns, TookTallyTurns, Climbs, Reading, stream_sites}
 use Rattle.sand_shared.specs.declared.rows.Rows.{Rows}
-use Rattle.sand_model.specs.Piles.{height_of}
-use Rattle.std.proofs.lemmas.List.{get_or-take, get_or-drop, length-replicate, length-take}
-use Rattle.std.proofs.lemmas.List.Sums.{sum_by-cons}
-use Rattle.sand_shared.specs.Events.{zeros}
-use Rattle.sand_shared.specs.OpenPile.{grid_of_terms, toppled_by}
-use Rattle.sand_shared.specs.Passes.{SharedView, PassView, IsPassOf, at_rest}
-use Rattle.sand_shared.specs.Rows.{count_of}
-use Rattle.sand_shared.specs.Sweeps.{LeavesAtMost}
-use Rattle.std.specs.List.{AllZip}
 use Rattle.std.proofs.lemmas.Slice.Zip.{AllZip-long}
-use Rattle.sand_lab.specs.declared.crew.Crew.{Crew}
-use Rattle.sand_lab.specs.declared.droppers.Dropper.{Dropper}
-use Rattle.sand_lab.specs.declared.observers.Observer.{Observer}
-use Rattle.sand_plan.specs.declared.wish.Wish.{Wish}
-use Rattle.sand_lab.specs.declared.workers.Worker.{Worker}
-use Rattle.sand_lab.specs.Crews.{EachAt, band, due, rowless, banded, IsDropper, IsWorker, IsObserver, IsCrew, HasDroppedItsStream, HasSweptItsBand, HasReadItsTallies, HasWorked}
-use Rattle.sand_lab.specs.Jobs.{CanDrop, CanSweep, CanTally, TookDropTurns, TookSweepTurns, TookTallyTurns, Climbs}
 use Rattle.sand_shared.proofs.Lawfulness.{get-zeros}
 use Rattle.std.proofs.lemmas.Bool.Decides.{nat_tests}
 use Rattle.sand_lab.proofs.EachAtItsPlace.{each_zip}
-use Rattle.sand_lab.specs.Streams.{Reading, stream_sites}
 
 -- a pass with the table and the grid of a pile belongs to it
 of_pile : (s : SharedView) (p q : PassView) → p ≡ q → q.table ≡ s.table → q.grid ≡ grid_of_terms s.terms → IsPassOf s p

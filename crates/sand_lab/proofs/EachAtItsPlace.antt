@@ -1,9 +1,5 @@
 -- What holds of each element of a list at its index, as the list grows.
-use Rattle.std.proofs.Common.{◌≡◌, ℕ, zero, suc, ◌+◌, List, [], ◌∷◌, ◌++◌, All, length, get_or, map, refl, subst, arith}
-use Rattle.std.specs.List.{AllZip}
-use Rattle.std.proofs.lemmas.List.Elements.{All-map}
-use Rattle.std.proofs.lemmas.Option.{none-some, same_Some, slice_get-get_or}
-use Rattle.sand_lab.specs.Crews.{EachAt}
+use Rattle.sand_lab.proofs.Common.{◌≡◌, ℕ, zero, suc, ◌+◌, List, [], ◌∷◌, ◌++◌, All, length, get_or, map, refl, subst, arith, AllZip, All-map, none-some, same_Some, slice_get-get_or, EachAt}
 
 module _ {A : Type 0} where
   -- one more element at the end

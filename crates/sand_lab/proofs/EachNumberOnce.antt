@@ -1,22 +1,10 @@
 -- If the numbers of receipts are all different and below their count, each number below it occurs exactly once. So the
 -- sites of a journal are the history.
-use Rattle.std.proofs.Common.{ℕ, ◌≡◌, ◌<◌, List, map, length, get_or, Some, sym, ap, ◌∙◌, arith, ◌/◌}
-use Rattle.std.proofs.lemmas.List.{length-map}
-use Rattle.std.proofs.lemmas.List.Elements.{All-map}
-use Rattle.std.proofs.lemmas.Option.{get_or_from_slice_get, slice_get-get_or, slice_get_within, slice_get-map}
-use Rattle.std.specs.Prelude.{slice_get, option_map}
-use Rattle.sand_model.specs.Sand.{sum_below, occurrences, one_at}
+use Rattle.sand_lab.proofs.Common.{ℕ, ◌≡◌, ◌<◌, List, map, length, get_or, Some, sym, ap, ◌∙◌, arith, ◌/◌, length-map, All-map, get_or_from_slice_get, slice_get-get_or, slice_get_within, slice_get-map, slice_get, option_map, sum_below, occurrences, one_at, Receipt, numbered, receipt, EachOnce, AllBelow, Tells, Entry, entry, sites_in, IsJournal}
 use Rattle.sand_model.proofs.Bounds.{fewer_than_all}
 use Rattle.sand_model.proofs.Occurrences.{sum_below-occurrences}
-use Rattle.sand_shared.specs.declared.view.Receipt.{Receipt}
-use Rattle.sand_shared.specs.OpenPile.{numbered}
-use Rattle.sand_shared.specs.Events.{receipt}
-use Rattle.sand_shared.specs.Passes.{EachOnce, AllBelow}
 use Rattle.sand_shared.proofs.ReceiptsTellHistory.{apart, found, history_is}
 use Rattle.sand_shared.proofs.SumsOverPasses.{sum_by-map}
-use Rattle.sand_shared.specs.Record.{Tells}
-use Rattle.sand_lab.specs.declared.journal.Entry.{Entry}
-use Rattle.sand_lab.specs.Journals.{entry, sites_in, IsJournal}
 
 abbrev pub numbers_of : List Receipt → List ℕ
 numbers_of rs = map (λ (r : Receipt). r.number) rs

@@ -1,15 +1,7 @@
 -- A journal that is written part by part has the entry of each receipt at its number.
-use Rattle.std.proofs.Common.{ℕ, ◌≡◌, ◌≢◌, ◌+◌, ◌-◌, ◌*◌, ◌/◌, ◌<◌, ◌≤◌, List, Vec, Global, All, length, get_or, set, Some, sym, ap, ◌∙◌, subst, ⊎_elim, arith}
+use Rattle.sand_lab.proofs.Common.{ℕ, ◌≡◌, ◌≢◌, ◌+◌, ◌-◌, ◌*◌, ◌/◌, ◌<◌, ◌≤◌, List, Vec, Global, All, length, get_or, set, Some, sym, ap, ◌∙◌, subst, ⊎_elim, arith, div-mul-add, slice_get-map, same_Some, slice_get-get_or, get_or_from_slice_get, slice_get_within, slice_get, option_map, Receipt, receipt, EachOnce, AllBelow, Entry, entry, lists, Ascends, AreParts, HasEntries, AgreeBeside, IsJournal}
 use Rattle.std.proofs.lemmas.Bool.{cases_lt}
-use Rattle.std.proofs.lemmas.Nat.{div-mul-add}
-use Rattle.std.proofs.lemmas.Option.{slice_get-map, same_Some, slice_get-get_or, get_or_from_slice_get, slice_get_within}
-use Rattle.std.specs.Prelude.{slice_get, option_map}
-use Rattle.sand_shared.specs.declared.view.Receipt.{Receipt}
-use Rattle.sand_shared.specs.Events.{receipt}
-use Rattle.sand_shared.specs.Passes.{EachOnce, AllBelow}
 use Rattle.sand_shared.proofs.ReceiptsTellHistory.{get_set_here, get_set_else}
-use Rattle.sand_lab.specs.declared.journal.Entry.{Entry}
-use Rattle.sand_lab.specs.Journals.{entry, lists, Ascends, AreParts, HasEntries, AgreeBeside, IsJournal}
 use Rattle.sand_lab.proofs.EachNumberOnce.{one_place}
 use Rattle.sand_lab.proofs.JournalFollowsStreams.{in_all, in_part, length-part, length-parts, same_receipt, place_inside}
 

@@ -1,33 +1,7 @@
 -- A gathered crew makes a whole pass and a closed epoch.
-use Rattle.std.proofs.Common.{◌≡◌, ℕ, suc, ◌*◌, ◌<◌, ◌≤◌, List, [], ◌∷◌, All, length, sum, refl, sym, ap, ◌∙◌, subst, arith}
-use Rattle.std.specs.List.{flat_map}
-use Rattle.std.specs.Prelude.{slice_index}
-use Rattle.std.proofs.lemmas.List.{length-map}
-use Rattle.std.proofs.lemmas.List.Elements.{All-nil, All-append}
+use Rattle.sand_lab.proofs.Common.{◌≡◌, ℕ, suc, ◌*◌, ◌<◌, ◌≤◌, List, [], ◌∷◌, All, length, sum, refl, sym, ap, ◌∙◌, subst, arith, flat_map, slice_index, length-map, All-nil, All-append, sum_by-cons, sum_by-append, slice_get-get_or, sites, sum_below, occurrences, odometer_of, Receipt, grid_of_terms, receipts_for, SharedView, PassView, EachOnce, AllBelow, IsWhole, RecordView, IsOneThreads, IsRecordOf, Crew, Dropper, Entry, Observer, Wish, Worker, EachAt, band, due, tallies_each, HasDroppedItsStream, HasSweptItsBand, HasReadItsTallies, HasWorked, parts_of, all_counts, all_swept, readings, HasGathered, Climbs, Ascends, AreParts, HavePlaces, IsJournal, flattened, receipt_sites, IsPlan, quota_of, AreTallies, AreSwept, IsClosed, stream_of, stream_sites}
 use Rattle.std.proofs.lemmas.List.Folds.{flat_map-map}
-use Rattle.std.proofs.lemmas.List.Sums.{sum_by-cons, sum_by-append}
-use Rattle.std.proofs.lemmas.Option.{slice_get-get_or}
-use Rattle.sand_model.specs.Grid.{sites}
-use Rattle.sand_model.specs.Sand.{sum_below, occurrences}
 use Rattle.sand_model.proofs.Heights.{sum_is_grains}
-use Rattle.sand_settle.specs.Settling.{odometer_of}
-use Rattle.sand_shared.specs.declared.view.Receipt.{Receipt}
-use Rattle.sand_shared.specs.OpenPile.{grid_of_terms, receipts_for}
-use Rattle.sand_shared.specs.Passes.{SharedView, PassView, EachOnce, AllBelow, IsWhole}
-use Rattle.sand_shared.specs.Record.{RecordView, IsOneThreads, IsRecordOf}
-use Rattle.sand_lab.specs.declared.crew.Crew.{Crew}
-use Rattle.sand_lab.specs.declared.droppers.Dropper.{Dropper}
-use Rattle.sand_lab.specs.declared.journal.Entry.{Entry}
-use Rattle.sand_lab.specs.declared.observers.Observer.{Observer}
-use Rattle.sand_plan.specs.declared.wish.Wish.{Wish}
-use Rattle.sand_lab.specs.declared.workers.Worker.{Worker}
-use Rattle.sand_lab.specs.Crews.{EachAt, band, due, tallies_each, HasDroppedItsStream, HasSweptItsBand, HasReadItsTallies, HasWorked}
-use Rattle.sand_lab.specs.Gathering.{parts_of, all_counts, all_swept, readings, HasGathered}
-use Rattle.sand_lab.specs.Jobs.{Climbs}
-use Rattle.sand_lab.specs.Journals.{Ascends, AreParts, HavePlaces, IsJournal, flattened, receipt_sites}
-use Rattle.sand_plan.specs.Plans.{IsPlan, quota_of}
-use Rattle.sand_lab.specs.Epochs.{AreTallies, AreSwept, IsClosed}
-use Rattle.sand_lab.specs.Streams.{stream_of, stream_sites}
 use Rattle.sand_lab.proofs.CrewHasWorked.{sums_up}
 use Rattle.sand_lab.proofs.EachNumberOnce.{journal_sites}
 use Rattle.sand_lab.proofs.JournalFollowsStreams.{follows_streams, length-parts}

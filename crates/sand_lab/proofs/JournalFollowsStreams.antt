@@ -1,19 +1,9 @@
 -- What a journal says of the drops of one dropper, whose receipts are a part of all: their sites, picked from the
 -- journal, are those of its receipts.
-use Rattle.std.proofs.Common.{ℕ, zero, suc, ◌≡◌, ◌≢◌, ◌+◌, ◌<◌, List, [], ◌∷◌, Some, refl, ap, ap₂, ⊎_elim, arith, ◌*◌, ◌/◌, ◌%◌, ◌≤◌, All, take, length, get_or, sym, ◌∙◌, subst, length-append}
+use Rattle.sand_lab.proofs.Common.{ℕ, zero, suc, ◌≡◌, ◌≢◌, ◌+◌, ◌<◌, List, [], ◌∷◌, Some, refl, ap, ap₂, ⊎_elim, arith, ◌*◌, ◌/◌, ◌%◌, ◌≤◌, All, take, length, get_or, sym, ◌∙◌, subst, length-append, none-some, same_Some, get_or_from_slice_get, slice_get_within, slice_get-get_or, slice_get, Receipt, Entry, entry, receipt_sites, sites_by, Ascends, flattened, AreParts, IsJournal, FollowsStreams, take_all, div-mul-add, div-add-mod', mul-le-mul_right, EachOnce, AllBelow, stream_of, stream_sites}
 use Rattle.std.proofs.lemmas.Bool.{cases_eq, eq-eqb, ne_eqb}
-use Rattle.std.proofs.lemmas.Option.{none-some, same_Some, get_or_from_slice_get, slice_get_within, slice_get-get_or}
-use Rattle.std.specs.Prelude.{slice_get}
-use Rattle.sand_shared.specs.declared.view.Receipt.{Receipt}
-use Rattle.sand_lab.specs.declared.journal.Entry.{Entry}
-use Rattle.sand_lab.specs.Journals.{entry, receipt_sites, sites_by, Ascends, flattened, AreParts, IsJournal, FollowsStreams}
 use Rattle.sand_lab.proofs.EachNumberOnce.{HasNumber, entry_of}
-use Rattle.std.proofs.lemmas.List.{take_all}
 use Rattle.std.proofs.lemmas.List.Concat.{get_or-flat_map}
-use Rattle.std.proofs.lemmas.Nat.{div-mul-add, div-add-mod'}
-use Rattle.std.proofs.Math.Nat.{mul-le-mul_right}
-use Rattle.sand_shared.specs.Passes.{EachOnce, AllBelow}
-use Rattle.sand_lab.specs.Streams.{stream_of, stream_sites}
 
 -- Below, js is the tail of a journal, whose entries are numbered from m on.
 

@@ -10,3 +10,4 @@ pub mod SheetLengths
 pub mod OccurrencesInStreams
 pub mod OneTurnMore
 pub mod CrewHasWorked
+pub mod Common

@@ -1,15 +1,9 @@
 -- Receipts in parts, one part for each stream, are for each site as many as the streams together have of it.
-use Rattle.std.proofs.Common.{ℕ, zero, suc, ◌≡◌, ◌≤◌, List, [], take, length, get_or, refl, sym, ap, ◌∙◌, arith}
-use Rattle.std.proofs.lemmas.List.{flat_map_more, take_all}
-use Rattle.std.proofs.lemmas.Option.{slice_get-get_or}
+use Rattle.sand_lab.proofs.Common.{ℕ, zero, suc, ◌≡◌, ◌≤◌, List, [], take, length, get_or, refl, sym, ap, ◌∙◌, arith, flat_map_more, take_all, slice_get-get_or, occurrences, one_at, Receipt, receipts_for, EachAt, flattened, receipt_sites}
 use Rattle.std.proofs.Math.Seq.{take-suc}
-use Rattle.sand_model.specs.Sand.{sum_below, occurrences, one_at}
-use Rattle.sand_shared.specs.declared.view.Receipt.{Receipt}
-use Rattle.sand_shared.specs.OpenPile.{receipts_for}
+use Rattle.sand_model.specs.Sand.{sum_below}
 use Rattle.sand_shared.proofs.Receipts.{receipts_for-append}
 use Rattle.sand_shared.proofs.SumsOverPasses.{sum_by-map}
-use Rattle.sand_lab.specs.Crews.{EachAt}
-use Rattle.sand_lab.specs.Journals.{flattened, receipt_sites}
 
 module _ (i : ℕ) (stream : ℕ → List ℕ) (parts : List (List Receipt))
     (each : EachAt (λ k part. receipt_sites part ≡ stream k) parts) where

@@ -1,16 +1,5 @@
 -- A report with one more epoch, and why each epoch stays within the limit.
-use Rattle.std.proofs.Common.{◌≡◌, ℕ, zero, suc, ◌+◌, ◌-◌, ◌*◌, ◌<◌, ◌≤◌, List, [], ◌∷◌, ◌++◌, length, sum, sum_by, refl, sym, ap, ◌∙◌, subst, arith, append_assoc, append-nil, length-append}
-use Rattle.std.proofs.lemmas.List.{length-map}
-use Rattle.std.proofs.lemmas.List.Sums.{sum_by-cons, sum_by-append}
-use Rattle.sand_model.specs.Grid.{sites}
-use Rattle.sand_model.specs.Piles.{PileView, most_grains}
-use Rattle.sand_settle.specs.Settling.{odometer_of}
-use Rattle.sand_shared.specs.Record.{RecordView}
-use Rattle.sand_lab.specs.declared.journal.Entry.{Entry}
-use Rattle.sand_plan.specs.declared.wish.Wish.{Wish}
-use Rattle.sand_plan.specs.Plans.{quota_of, all_drops}
-use Rattle.sand_lab.specs.Epochs.{IsClosed}
-use Rattle.sand_lab.specs.Reports.{SheetView, ReportView, report_of, IsEpoch, AreEpochs, IsTotal, IsReportOf, IsBoth, HasGrown, last_pile, histories}
+use Rattle.sand_lab.proofs.Common.{◌≡◌, ℕ, zero, suc, ◌+◌, ◌-◌, ◌*◌, ◌<◌, ◌≤◌, List, [], ◌∷◌, ◌++◌, length, sum, sum_by, refl, sym, ap, ◌∙◌, subst, arith, append_assoc, append-nil, length-append, length-map, sum_by-cons, sum_by-append, sites, PileView, most_grains, odometer_of, RecordView, Entry, Wish, quota_of, all_drops, IsClosed, SheetView, ReportView, report_of, IsEpoch, AreEpochs, IsTotal, IsReportOf, IsBoth, HasGrown, last_pile, histories}
 
 epochs_push : (album : List ℕ) (w : Wish) (start : PileView) (t : ℕ)
     (rs : List RecordView) (ss : List SheetView) (r : RecordView) (s : SheetView)

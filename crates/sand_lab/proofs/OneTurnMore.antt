@@ -1,24 +1,9 @@
 -- One more turn: a receipt, a tally, a sweep. A dropper reads one more site of its stream, and drops on all that it has
 -- read.
-use Rattle.std.proofs.Common.{◌≡◌, ℕ, zero, suc, subst, ◌+◌, ◌-◌, ◌*◌, ◌<◌, ◌≤◌, List, [], ◌∷◌, ◌++◌, length, refl, sym, ap, arith, append_assoc, append-nil, All, ◌∙◌, length-append, add-one}
-use Rattle.std.specs.List.{AllZip}
-use Rattle.sand_shared.specs.declared.view.Receipt.{Receipt}
-use Rattle.std.specs.Prelude.{slice_index, vec_capacity}
+use Rattle.sand_lab.proofs.Common.{◌≡◌, ℕ, zero, suc, subst, ◌+◌, ◌-◌, ◌*◌, ◌<◌, ◌≤◌, List, [], ◌∷◌, ◌++◌, length, refl, sym, ap, arith, append_assoc, append-nil, All, ◌∙◌, length-append, add-one, AllZip, Receipt, slice_index, vec_capacity, map_push, All-push, All-nil, All-cons, All-append, receipt, receipts_from, PassView, AllBelow, at_rest, SharedView, IsPassOf, LeavesAtMost, SweptRows, Ascends, receipt_sites, Climbs, CanDrop, IsDropping, TookDropTurns, div_ceil, sites, grid_of_terms, Dropper, Reading, site_at}
 use Rattle.sand_shared.specs.declared.view.Terms.{Terms}
-use Rattle.std.proofs.lemmas.List.{map_push}
-use Rattle.std.proofs.lemmas.List.Elements.{All-push, All-nil, All-cons, All-append}
 use Rattle.std.proofs.lemmas.List.Quantifiers.{all_pairs_push}
-use Rattle.sand_shared.specs.Events.{receipt, receipts_from}
-use Rattle.sand_shared.specs.Passes.{PassView, AllBelow, at_rest, SharedView, IsPassOf}
-use Rattle.sand_shared.specs.Sweeps.{LeavesAtMost, SweptRows}
-use Rattle.sand_lab.specs.Journals.{Ascends, receipt_sites}
-use Rattle.sand_lab.specs.Jobs.{Climbs, CanDrop, IsDropping, TookDropTurns}
-use Rattle.std.specs.Int.{div_ceil}
 use Rattle.std.proofs.lemmas.Grind.{div_ceil_times}
-use Rattle.sand_model.specs.Grid.{sites}
-use Rattle.sand_shared.specs.OpenPile.{grid_of_terms}
-use Rattle.sand_lab.specs.declared.droppers.Dropper.{Dropper}
-use Rattle.sand_lab.specs.Streams.{Reading, site_at}
 
 -- a receipt whose number is at least what was seen
 pub ascends_push : (seen : ℕ) (rs : List Receipt) (r : Receipt) → Ascends rs → AllBelow seen rs → seen ≤ r.number

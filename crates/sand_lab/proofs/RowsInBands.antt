@@ -1,20 +1,9 @@
 -- Splitting the rows of a pass into bands, starting with the last; the bands, joined in order, are all rows.
-use Rattle.std.proofs.Common.{◌≡◌, ℕ, zero, suc, ◌+◌, ◌-◌, ◌*◌, ◌≤◌, List, [], take, drop, refl, sym, ap, ap₂, ◌∙◌, arith, ◌/◌, Bool, true, false, max, cond, ◌∷◌, ◌++◌, length, Some, append-nil}
+use Rattle.sand_lab.proofs.Common.{◌≡◌, ℕ, zero, suc, ◌+◌, ◌-◌, ◌*◌, ◌≤◌, List, [], take, drop, refl, sym, ap, ap₂, ◌∙◌, arith, ◌/◌, Bool, true, false, max, cond, ◌∷◌, ◌++◌, length, Some, append-nil, gets, drop-replicate, take-replicate, length-replicate, zeros, grid_of_terms, SharedView, sites_kept, PassView, together, rows_between, count_of, upper_rows, lower_rows, rows_follow, rows_together, AreApart, rowless, upper_part, banded, slice_get, ◌||◌, le-div, div-mul-le_self, Receipt}
 use Rattle.std.proofs.lemmas.Bool.Decides.{nat_tests}
 use Rattle.std.proofs.lemmas.Grind.{common_steps}
-use Rattle.std.proofs.lemmas.Option.{gets}
-use Rattle.std.proofs.lemmas.List.{drop-replicate, take-replicate, length-replicate}
 use Rattle.sand_shared.specs.declared.rows.Rows.{Rows}
-use Rattle.sand_shared.specs.Events.{zeros}
-use Rattle.sand_shared.specs.OpenPile.{grid_of_terms}
-use Rattle.sand_shared.specs.Passes.{SharedView, sites_kept, PassView, together}
-use Rattle.sand_shared.specs.Rows.{rows_between, count_of, upper_rows, lower_rows, rows_follow, rows_together, AreApart}
 use Rattle.sand_shared.proofs.PassesSplit.{between_some}
-use Rattle.sand_lab.specs.Crews.{rowless, upper_part, banded}
-use Rattle.std.specs.Prelude.{slice_get, ◌||◌}
-use Rattle.std.proofs.lemmas.Nat.{le-div}
-use Rattle.std.proofs.Math.Nat.{div-mul-le_self}
-use Rattle.sand_shared.specs.declared.view.Receipt.{Receipt}
 
 -- the first n rows
 abbrev pub top : ℕ → Rows

@@ -1,20 +1,11 @@
 -- Why a run has one outcome. A record is determined by its start and the drops on each site, because heights settle to
 -- one pile with one odometer. How often a site is dropped on in an epoch is determined by the streams.
-use Rattle.std.proofs.Common.{ℕ, ◌≡◌, ◌+◌, ◌*◌, List, [], ◌∷◌, map, length, sum, refl, sym, ap, ◌∙◌, arith}
-use Rattle.sand_model.specs.Grid.{sites}
-use Rattle.sand_model.specs.Piles.{PileView, height_of}
-use Rattle.sand_model.specs.Sand.{sum_below, occurrences}
+use Rattle.sand_lab.proofs.Common.{ℕ, ◌≡◌, ◌+◌, ◌*◌, List, [], ◌∷◌, map, length, sum, refl, sym, ap, ◌∙◌, arith, sites, PileView, height_of, sum_below, occurrences, SettledView, RecordView, IsOneThreads, quota_of, Wish, SheetView, AreEpochs, histories, stream_of, stream_sites}
 use Rattle.sand_model.proofs.Occurrences.{occurrences-append}
-use Rattle.sand_settle.specs.Settling.{SettledView}
 use Rattle.sand_settle.proofs.OneRecord.{one_record}
-use Rattle.sand_shared.specs.Record.{RecordView, IsOneThreads}
 use Rattle.sand_shared.proofs.Receipts.{record_of_drops}
-use Rattle.sand_plan.specs.Plans.{quota_of}
 use Rattle.sand_lab.proofs.OneEpochMore.{epoch_drops, dropped_so_far}
-use Rattle.sand_plan.specs.declared.wish.Wish.{Wish}
 use Rattle.sand_lab.specs.Laws.{AskTheSame, OneOutcome, one_of}
-use Rattle.sand_lab.specs.Reports.{SheetView, AreEpochs, histories}
-use Rattle.sand_lab.specs.Streams.{stream_of, stream_sites}
 
 -- the result of one thread depends only on the start and on how often each site was dropped on, in any order
 pub one_threads_once : (r q : RecordView) → IsOneThreads r → IsOneThreads q

@@ -1,10 +1,6 @@
 -- For each epoch a report has a tally list for each observer, a swept number for each worker, and the album's place.
-use Rattle.std.proofs.Common.{ℕ, ◌≡◌, ◌+◌, ◌<◌, zero, suc, List, [], ◌∷◌, length, slice_index_or, None, subst, arith}
-use Rattle.sand_model.specs.Piles.{PileView}
-use Rattle.sand_shared.specs.Record.{RecordView}
-use Rattle.sand_plan.specs.declared.wish.Wish.{Wish}
+use Rattle.sand_lab.proofs.Common.{ℕ, ◌≡◌, ◌+◌, ◌<◌, zero, suc, List, [], ◌∷◌, length, slice_index_or, None, subst, arith, PileView, RecordView, Wish, SheetView, ReportView, IsEpoch, AreEpochs, IsReport, sheet_at}
 use Rattle.sand_lab.specs.Albums.{IsPlace}
-use Rattle.sand_lab.specs.Reports.{SheetView, ReportView, IsEpoch, AreEpochs, IsReport, sheet_at}
 
 pub record IsSheet (album : List ℕ) (w : Wish) (t : ℕ) (s : SheetView) : Type 0 where
   pub tallies : length s.tallies ≡ w.observers

@@ -124,6 +124,13 @@ pub record HasWorked (s : SharedView) (w : Wish) (epoch : ℕ) (c : Crew) : Type
   pub observers : EachAt (HasReadItsTallies s) c.observers.items
   pub all_observers : length c.observers.items ≡ w.observers
 
+-- a crew that has done its work in some epoch of some plan
+pub record HasWorkedOnce (s : SharedView) (c : Crew) : Type 0 where
+  pub wish : Wish
+  pub epoch : ℕ
+  pub some : 0 < wish.workers
+  pub worked : HasWorked s wish epoch c
+
 -- in any epoch, its work has turned the crew c into d
 pub record HasBecome (s : SharedView) (w : Wish) (c d : Crew) : Type 0 where
   pub worked : (epoch : ℕ) → IsCrew s w epoch c → HasWorked s w epoch d

@@ -2,13 +2,13 @@
 -- droppers, drops and epochs alone.
 use Rattle.std.specs.Prelude.{ℕ, ◌≡◌, ◌+◌, List, map, length, sum}
 use Rattle.sand_model.specs.Piles.{PileView}
-use Rattle.sand_settle.specs.Drops.{OneView}
+use Rattle.sand_settle.specs.Drops.{DrivenView}
 use Rattle.sand_shared.specs.Record.{RecordView}
 use Rattle.sand_plan.specs.declared.wish.Wish.{Wish}
 use Rattle.sand_lab.specs.Reports.{ReportView, IsReport}
 
 -- the state of one thread's pile after the history of a record
-abbrev pub one_of : RecordView → OneView
+abbrev pub one_of : RecordView → DrivenView
 one_of r = record { settled = r.settled; number = length r.history; grains = sum r.start.heights + length r.history }
 
 -- the wishes differ at most in workers, sweeps and observers

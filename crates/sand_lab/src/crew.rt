@@ -9,7 +9,7 @@ ghost use Rattle.sand_plan.specs.declared.wish.Wish.{Wish};
 
 use crate::droppers::Dropper;
 use crate::observers::{Observer, TALLIES};
-use crate::work::{Work, do_all};
+use crate::turns::{TakeTurns, take_turns_together};
 use crate::workers::Worker;
 use sand_plan::{Gate, Open, Wish};
 use sand_shared::SharedPile;
@@ -23,17 +23,17 @@ pub(crate) struct Crew {
     pub(crate) observers: Vec<Observer>,
 }
 
-fn do_list<R: Threads + Sync, G: Gate, W: Work>(
+fn all_take_turns<R: Threads + Sync, G: Gate, M: TakeTurns>(
     rt: &R,
     pile: &SharedPile,
     gate: &G,
     turns: u32,
-    works: &mut Vec<W>,
+    members: &mut Vec<M>,
 )
-    requires { All (W.ready pile.now turns) works.old.items }
-    ensures { AllZip (W.done pile.now turns) works.old.items works.new.items }
+    requires { All (M.ready pile.now turns) members.old.items }
+    ensures { AllZip (M.done pile.now turns) members.old.items members.new.items }
 {
-    do_all(rt, pile, gate, turns, works.as_mut_slice());
+    take_turns_together(rt, pile, gate, turns, members.as_mut_slice());
 }
 
 // Workers sweep while observers read the tally.
@@ -55,12 +55,12 @@ fn sweep_and_tally<R: Threads + Sync, G: Gate>(
         &mut ||
             requires { IsSync R.row × IsSync G.row × All (CanSweep pile.now) workers.now.items }
             ensures { AllZip (TookSweepTurns pile.entry.now sweeps) workers.entry.now.items workers.exit.now.items }
-        { do_list(rt, pile, gate, sweeps, workers) },
+        { all_take_turns(rt, pile, gate, sweeps, workers) },
         &mut ||
             requires { IsSync R.row × IsSync G.row × All (CanTally pile.now tallies_each) observers.now.items }
             ensures { AllZip (TookTallyTurns pile.entry.now tallies_each)
                 observers.entry.now.items observers.exit.now.items }
-        { do_list(rt, pile, gate, TALLIES, observers) },
+        { all_take_turns(rt, pile, gate, TALLIES, observers) },
     );
 }
 
@@ -91,7 +91,7 @@ impl Crew {
                 requires { IsSync R.row × IsSync G.row × All (CanDrop pile.now wish.drops) droppers.now.items }
                 ensures { AllZip (TookDropTurns pile.entry.now wish.drops)
                     droppers.entry.now.items droppers.exit.now.items }
-            { do_list(rt, pile, gate, wish.drops, droppers) },
+            { all_take_turns(rt, pile, gate, wish.drops, droppers) },
             &mut ||
                 requires { IsSync R.row × IsSync G.row × All (CanSweep pile.now) workers.now.items
                     × All (CanTally pile.now tallies_each) observers.now.items }
@@ -131,7 +131,7 @@ impl Crew {
             → HasWorked pile.now wish epoch self.new }
     {
         for _ in 0..rounds {
-            do_list(rt, pile, &Open, 1, &mut self.workers);
+            all_take_turns(rt, pile, &Open, 1, &mut self.workers);
             if self.is_calm() {
                 return;
             }

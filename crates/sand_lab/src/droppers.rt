@@ -9,7 +9,7 @@ ghost use Rattle.std.specs.Prelude.{◌≡◌, ℕ, ◌+◌, ◌<◌, [], length
 ghost use Rattle.std.specs.Int.{div_ceil};
 ghost use Rattle.sand_lab.specs.Jobs.{CanDrop, TookDropTurns, IsDropping};
 
-use crate::work::Work;
+use crate::turns::TakeTurns;
 use sand_plan::{Gate, Role};
 use sand_shared::{Pass, SharedPile, SiteCounts};
 use sand_streams::SiteReader;
@@ -82,7 +82,7 @@ impl Dropper {
     }
 }
 
-impl Work for Dropper {
+impl TakeTurns for Dropper {
     ghost use Rattle.sand_lab.specs.Jobs.{CanDrop, TookDropTurns};
 
     ghost ready = { CanDrop };

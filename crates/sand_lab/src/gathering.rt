@@ -1,16 +1,15 @@
 //! Gathering the passes of a crew: the droppers' in order, the workers' in the order of their bands, then the
 //! observers'; and what workers and observers found. The passes are gathered bare, so no receipt is copied.
 
-ghost use Rattle.std.specs.Prelude.{◌≡◌, ℕ, ◌+◌, ◌<◌, ◌≤◌, ◌++◌, [], length, map, All, IfOk, IfErr, OnOk};
+ghost use Rattle.std.specs.Prelude.{◌≡◌, ◌+◌, ◌<◌, ◌≤◌, ◌++◌, [], length, map, All, IfOk, IfErr, OnOk};
 ghost use Rattle.std.specs.List.{flat_map};
 ghost use Rattle.sand_shared.specs.OpenPile.{grid_of_terms};
 ghost use Rattle.sand_shared.specs.Passes.{IsPassOf, together};
 ghost use Rattle.sand_shared.specs.Rows.{AreApart, no_rows};
-ghost use Rattle.sand_lab.specs.Crews.{EachAt, HasDroppedItsStream, HasSweptItsBand, HasReadItsTallies, HasWorked, rowless};
+ghost use Rattle.sand_lab.specs.Crews.{EachAt, HasDroppedItsStream, HasSweptItsBand, HasReadItsTallies, HasWorkedOnce, rowless};
 ghost use Rattle.sand_lab.specs.Faults.{IsMemory};
 ghost use Rattle.sand_lab.specs.Gathering.{all_receipts, all_counts, all_swept, readings, HasGathered, parts_of, HoldsReceipts, HoldsBand, HoldsNothing};
 ghost use Rattle.sand_lab.specs.Journals.{lists};
-ghost use Rattle.sand_plan.specs.declared.wish.Wish.{Wish};
 
 use crate::crew::Crew;
 use crate::droppers::Dropper;
@@ -164,7 +163,7 @@ impl Crew {
         first: &mut BarePass,
     ) -> Result<Gathered, LabFault>
         requires first { first.old ≡ rowless pile.now 0 }
-        requires crew { (wish : Wish) × (epoch : ℕ) × (0 < wish.workers) × HasWorked pile.now wish epoch self }
+        requires crew { HasWorkedOnce pile.now self }
         ensures of_pile { IsPassOf pile.now first.new }
         ensures first { OnOk result (HasGathered pile.now self first.new) }
         ensures parts { IfOk result (λ g. lists g.parts.items ≡ parts_of self.droppers.items) }

@@ -16,7 +16,7 @@ mod plan;
 mod report;
 mod runs;
 mod streams;
-mod work;
+mod turns;
 mod workers;
 
 pub use album::{Album, Note, Picture};

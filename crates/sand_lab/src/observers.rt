@@ -1,6 +1,6 @@
 //! Observers: each reads the tally repeatedly.
 
-use crate::work::Work;
+use crate::turns::TakeTurns;
 use sand_plan::{Gate, Role};
 use sand_shared::{Pass, SharedPile};
 
@@ -14,7 +14,7 @@ pub(crate) struct Observer {
     pub(crate) pass: Pass,
 }
 
-impl Work for Observer {
+impl TakeTurns for Observer {
     ghost use Rattle.sand_lab.specs.Jobs.{CanTally, TookTallyTurns};
 
     ghost ready = { CanTally };

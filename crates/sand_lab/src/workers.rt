@@ -1,6 +1,6 @@
 //! Workers: each sweeps a band of rows.
 
-use crate::work::Work;
+use crate::turns::TakeTurns;
 use sand_plan::{Gate, Role};
 use sand_shared::{Pass, SharedPile};
 
@@ -14,7 +14,7 @@ pub(crate) struct Worker {
     pub(crate) pass: Pass,
 }
 
-impl Work for Worker {
+impl TakeTurns for Worker {
     ghost use Rattle.sand_shared.specs.Passes.{SharedView};
     ghost use Rattle.sand_lab.specs.Jobs.{CanSweep, TookSweepTurns};
 

@@ -1,9 +1,6 @@
 -- The first and the last row, by the number of a site, and the column and row of the next site.
-use Rattle.std.proofs.Common.{ℕ, suc, ◌≡◌, ◌+◌, ◌/◌, ◌%◌, ◌<◌, ◌≤◌, refl, sym, arith, add-one, None, Bool, true, false, leb, ltb, ◌&&◌}
-use Rattle.std.proofs.lemmas.Bool.Decides.{nat_tests}
-use Rattle.std.proofs.lemmas.Nat.{le-div, div_below, div-add-mod'}
-use Rattle.std.proofs.Math.Nat.{suc-mod, mod_self, mod-eq_of_lt}
-use Rattle.sand_model.specs.Grid.{Grid, sites, row, column, is_inner, north, south}
+use Rattle.sand_model.proofs.Common.{ℕ, suc, ◌≡◌, ◌+◌, ◌/◌, ◌%◌, ◌<◌, ◌≤◌, refl, sym, arith, add-one, None, Bool, true, false, leb, ltb, ◌&&◌, nat_tests, le-div, div_below, div-add-mod', suc-mod, mod_self, mod-eq_of_lt, Grid, sites, row, column, is_inner}
+use Rattle.sand_model.specs.Grid.{north, south}
 use Rattle.sand_model.proofs.Neighbours.{some_width, row_above, row_below}
 
 pub nothing_north : (g : Grid) (i : ℕ) → i < sites g → i < g.width → None ≡ north g i

@@ -1,10 +1,6 @@
 -- The number of sites of a grid, and what bounds the topplings of a pile: its weight, and so its grains.
-use Rattle.std.proofs.Common.{ℕ, zero, suc, ◌≡◌, ◌+◌, ◌-◌, ◌*◌, ◌^◌, ◌<◌, ◌≤◌, ap, arith, ⊎_elim}
-use Rattle.std.proofs.lemmas.Bool.{cases_eq, cases_lt}
-use Rattle.std.proofs.lemmas.Nat.{mul-le, div-add-mod', div_below}
-use Rattle.std.proofs.Math.Nat.{mul-le-mul_left}
-use Rattle.sand_model.specs.Grid.{Grid, IsGrid, sites, row}
-use Rattle.sand_model.specs.Sand.{sum_below, IsToppled, grains, topplings, weight, grain_weight}
+use Rattle.sand_model.proofs.Common.{ℕ, zero, suc, ◌≡◌, ◌+◌, ◌-◌, ◌*◌, ◌^◌, ◌<◌, ◌≤◌, ap, arith, ⊎_elim, cases_eq, cases_lt, mul-le, div-add-mod', div_below, mul-le-mul_left, Grid, IsGrid, sites, row, IsToppled, grains, topplings, weight, grain_weight}
+use Rattle.sand_model.specs.Sand.{sum_below}
 use Rattle.sand_model.proofs.SumsBelow.{sum_below_le, sum_below-scale, sum_below-ones}
 use Rattle.sand_model.proofs.Neighbours.{some_width}
 use Rattle.sand_model.proofs.Sandpile.{weight_after, grain_weight_is}

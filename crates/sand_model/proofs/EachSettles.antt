@@ -1,15 +1,12 @@
 -- Each pile settles: while a site may topple, a toppling lowers the weight, and the counts never exceed the least
 -- odometer.
-use Rattle.std.proofs.Common.{ℕ, zero, suc, leb, ◌+◌, ◌-◌, ◌*◌, ◌<◌, ◌≤◌, ◌⊎◌, inl, inr, refl, arith}
-use Rattle.std.proofs.lemmas.Bool.{leb-true, leb-false}
-use Rattle.std.proofs.lemmas.Bool.Decides.{nat_tests}
-use Rattle.sand_model.specs.Grid.{Grid, sites}
-use Rattle.sand_model.specs.Sand.{flow, one_at, IsToppled, IsUnderway, IsSettled, weight}
+use Rattle.sand_model.proofs.Common.{ℕ, zero, suc, leb, ◌+◌, ◌-◌, ◌*◌, ◌<◌, ◌≤◌, ◌⊎◌, inl, inr, refl, arith, leb-true, leb-false, nat_tests, Grid, sites, flow, one_at, IsToppled, IsUnderway, IsSettled, weight}
 use Rattle.sand_model.proofs.Flow.{flow-scale}
 use Rattle.sand_model.proofs.Sandpile.{one_lighter}
 use Rattle.sand_model.proofs.Underway.{underway_start, underway_step, underway_end}
 use Rattle.sand_model.proofs.Lists.{all_or_one}
 
+-- a site may topple, or none may
 high_site : (n : ℕ) (t : ℕ → ℕ) → ((i : ℕ) × (i < n) × (4 ≤ t i)) ⊎ ((i : ℕ) → i < n → t i ≤ 3)
 high_site n t = elim (all_or_one n (λ i. leb (t i) 3)) [
   | inl low ↦ inr (λ i l. leb-true (t i) 3 (low i l))
@@ -30,6 +27,7 @@ one_more g s u t k inside high way =
     underway_step g s u t (λ i. u i + one_at k i) (after g t k) k 1 inside (omega arith) way (λ j l. omega arith)
     (record { balance = λ j l. omega (arith, (after_toppled g t k high).balance j l, flow-scale g 1 (one_at k) j) })
 
+-- by induction on a bound of the weight, which each toppling lowers
 settles_from : (n : ℕ) (g : Grid) (s u t : ℕ → ℕ) → weight g t ≤ n → IsUnderway g s u t
     → (v : ℕ → ℕ) × (r : ℕ → ℕ) × IsSettled g s v r
 settles_from zero g s u t l way = elim (high_site (sites g) t) [

@@ -1,12 +1,7 @@
 -- How far the neighbours of a site are from the nearest open edge, and how often a drop topples a site at most.
-use Rattle.std.proofs.Common.{ℕ, Bool, true, false, eqb, Option, Some, None, min, zero, suc, ◌≡◌, ◌+◌, ◌-◌, ◌*◌, ◌/◌, ◌%◌, ◌<◌, ◌≤◌, refl, sym, ◌∙◌, ap, ap₂, arith, ⊎_elim}
-use Rattle.std.specs.Prelude.{if◌then◌else◌}
-use Rattle.std.proofs.lemmas.Bool.{cases_eq}
-use Rattle.std.proofs.lemmas.Bool.Decides.{nat_tests}
-use Rattle.std.proofs.lemmas.Nat.{div_below, div-add-mod', mod_below, div-mul-add, mod-mul-add}
-use Rattle.sand_model.specs.Grid.{Grid, IsGrid, sites, joins, column, row, middle, north, west, east, south}
+use Rattle.sand_model.proofs.Common.{ℕ, Bool, true, false, eqb, Option, Some, None, min, zero, suc, ◌≡◌, ◌+◌, ◌-◌, ◌*◌, ◌/◌, ◌%◌, ◌<◌, ◌≤◌, refl, sym, ◌∙◌, ap, ap₂, arith, ⊎_elim, if◌then◌else◌, cases_eq, nat_tests, div_below, div-add-mod', mod_below, div-mul-add, mod-mul-add, Grid, IsGrid, sites, joins, column, row, middle, flow, value_at, one_at, IsStable, IsLeast, Stabilises}
+use Rattle.sand_model.specs.Grid.{north, west, east, south}
 use Rattle.sand_model.specs.Edges.{least_to_edge, to_edge, most_to_edge}
-use Rattle.sand_model.specs.Sand.{flow, value_at, one_at, IsStable, IsLeast, Stabilises}
 use Rattle.sand_model.proofs.Neighbours.{flow_four, some_width}
 use Rattle.sand_model.proofs.SumsBelow.{one_at_other}
 use Rattle.sand_model.proofs.Lists.{at_most_one}
@@ -97,6 +92,7 @@ up le = omega arith
 straight : (v n s : ℕ) → n + s ≤ 2 * v → n + v + v + s ≤ 4 * v
 straight v n s le = omega arith
 
+-- two neighbours in a line sum to at most twice the site's number, so all four to at most four times it
 both : (x y t n s w o : ℕ) → n + s ≤ 2 * min y (min x t) → w + o ≤ 2 * min x (min y t)
     → n + w + o + s ≤ 4 * min (min x y) t
 both x y t n s w o down level = omega arith
@@ -129,6 +125,7 @@ concave false x e y h most pe ph =
 top_two : (y h v n s : ℕ) → v ≡ min y h → n ≤ v → s ≤ v → n + 1 ≤ y → s + 1 ≤ h → n + v + v + s + 1 ≤ 4 * v
 top_two y h v n s is nv sv ny sh = omega arith
 
+-- one of the four edges is the nearest, and the neighbour towards it is one nearer
 top_four : (x e y h v n w o s : ℕ) → v ≡ min (min x e) (min y h) → n ≤ v → w ≤ v → o ≤ v → s ≤ v
     → n + 1 ≤ y → w + 1 ≤ x → o + 1 ≤ e → s + 1 ≤ h → n + w + o + s + 1 ≤ 4 * v
 top_four x e y h v n w o s is nv wv ov sv ny wx oe sh = omega arith
@@ -136,6 +133,7 @@ top_four x e y h v n w o s is nv wv ov sv ny wx oe sh = omega arith
 fewer : {a y : ℕ} → 0 < y → a ≤ y - 1 → a + 1 ≤ y
 fewer py le = omega arith
 
+-- at a site that is as far from the edge as `most`, the neighbours' numbers sum to less than four times its own
 at_top : (j : Bool) (x e y h most : ℕ) → 0 < e → 0 < h → most ≡ least_to_edge j (x + 1) e (y + 1) h
     → min (least_to_edge j (x + 1) e y (h + 1)) most + min (least_to_edge j x (e + 1) (y + 1) h) most
     + min (least_to_edge j (x + 2) (e - 1) (y + 1) h) most + min (least_to_edge j (x + 1) e (y + 2) (h - 1)) most + 1
@@ -177,6 +175,7 @@ last_one n w o s t le = omega arith
 same_min : {x y : ℕ} → x ≡ y → min x y ≡ y
 same_min e = omega arith
 
+-- by the topplings the dropped site loses at least the dropped grain, and no other site gains
 dropped_low : (s o f t m : ℕ) → s ≤ 3 → o ≤ 1 → f + 1 ≤ 4 * t → m ≡ t → s + o + f ≤ 4 * m + 3
 dropped_low s o f t m low one less is = omega arith
 
@@ -216,6 +215,7 @@ module _ (g : Grid) (a i : ℕ) (l : i < sites g) where
       (to_edge g a)
       (omega (arith, x_is g i l)) (omega (arith, y_is g i l)) (is ∙ here_is g i l)))
 
+-- toppled so often, the pile with the dropped grain is stable
 most_stabilises : (g : Grid) (s : ℕ → ℕ) (a : ℕ) → a < sites g → IsStable g s
     → Stabilises g (λ j. s j + one_at a j) (most_at g a)
 most_stabilises g s a inside stable = record {

@@ -1,8 +1,6 @@
 -- Classes of equivalent piles: equivalence is symmetric and transitive, and sums of equivalent piles are equivalent.
-use Rattle.std.proofs.Common.{ℕ, zero, suc, ◌≡◌, ◌*◌, ◌<◌, arith, List, [], ◌∷◌}
-use Rattle.std.specs.Prelude.{ℤ, pos, ◌+ℤ◌, ◌-ℤ◌}
+use Rattle.sand_model.proofs.Common.{ℕ, zero, suc, ◌≡◌, ◌*◌, ◌<◌, arith, List, [], ◌∷◌, ℤ, pos, ◌+ℤ◌, ◌-ℤ◌, Grid, sites, neighbours}
 use Rattle.std.proofs.lemmas.Int.{ints}
-use Rattle.sand_model.specs.Grid.{Grid, sites, neighbours}
 use Rattle.sand_model.specs.Integers.{whole_sum_by, laplacian, IsEquivalent}
 
 whole_sum_by-add : (z w : ℕ → ℤ) (js : List ℕ)

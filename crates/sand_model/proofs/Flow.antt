@@ -1,10 +1,6 @@
 -- The sum over a site's neighbours is monotone, additive and self-adjoint.
-use Rattle.std.proofs.Common.{ℕ, Bool, ◌≡◌, ◌+◌, ◌*◌, ◌<◌, ◌≤◌, refl, sym, ◌∙◌, ap, arith, List, [], ◌∷◌, All, Option, None, sum_by, count_by, get_or}
-use Rattle.std.proofs.lemmas.List.Sums.{sum_by-cons}
-use Rattle.std.proofs.lemmas.List.Elements.{All-head, All-tail}
-use Rattle.sand_model.specs.Grid.{Grid, sites, places, neighbours}
-use Rattle.sand_model.specs.Sand.{sum_below, occurrences, flow, one_at, value_at}
-use Rattle.sand_model.specs.Lists.{one_if}
+use Rattle.sand_model.proofs.Common.{ℕ, Bool, ◌≡◌, ◌+◌, ◌*◌, ◌<◌, ◌≤◌, refl, sym, ◌∙◌, ap, arith, List, [], ◌∷◌, All, Option, None, sum_by, count_by, get_or, sum_by-cons, All-head, All-tail, Grid, sites, places, neighbours, sum_below, occurrences, one_at, value_at, one_if}
+use Rattle.sand_model.specs.Sand.{flow}
 use Rattle.sand_model.proofs.SumsBelow.{sum_below_same, sum_below_both, sum_below-scale, sum_below-zero, sum_below_swap, sum_below-one_at, one_at_comm}
 use Rattle.sand_model.proofs.Neighbours.{flow_four, neighbours_mutual, neighbours_below}
 
@@ -66,6 +62,7 @@ pub flow_none : (g : Grid) (u : ℕ → ℕ) (j : ℕ) → ((i : ℕ) → i < si
 flow_none g u j none l =
     omega (arith, flow_same g u (λ i. 0 * u i) (λ i m. omega (arith, none i m)) j l, flow-scale g 0 u j)
 
+-- the flow as a sum over all sites, each as often as it is a neighbour
 flow_spread : (g : Grid) (u : ℕ → ℕ) (i : ℕ) → i < sites g
     → flow g u i ≡ sum_below (sites g) (λ j. u j * occurrences (neighbours g i) j)
 unfolding flow

@@ -1,11 +1,7 @@
 -- Lists of heights, one for each site.
-use Rattle.std.proofs.Common.{ℕ, zero, suc, ◌≡◌, ◌+◌, ◌-◌, ◌*◌, ◌<◌, ◌≤◌, refl, sym, ◌∙◌, ap, arith, List, [], ◌∷◌, length, sum, Option, None, get_or}
+use Rattle.sand_model.proofs.Common.{ℕ, zero, suc, ◌≡◌, ◌+◌, ◌-◌, ◌*◌, ◌<◌, ◌≤◌, refl, sym, ◌∙◌, ap, arith, List, [], ◌∷◌, length, sum, Option, None, get_or, nat_tests, get_or-set_same, get_or-set_other, sum_by-cons, Grid, sites, places, missing, flow, one_at, value_at, grains, lost, IsToppled}
 use Rattle.std.proofs.Math.ListN.{set}
-use Rattle.std.proofs.lemmas.Bool.Decides.{nat_tests}
-use Rattle.std.proofs.lemmas.List.{get_or-set_same, get_or-set_other}
-use Rattle.std.proofs.lemmas.List.Sums.{sum_by-cons}
-use Rattle.sand_model.specs.Grid.{Grid, sites, places, missing}
-use Rattle.sand_model.specs.Sand.{sum_below, flow, one_at, value_at, grains, lost, IsToppled}
+use Rattle.sand_model.specs.Sand.{sum_below}
 use Rattle.sand_model.proofs.SumsBelow.{sum_below-one_at}
 use Rattle.sand_model.proofs.Flow.{four_places, flow-scale}
 use Rattle.sand_model.proofs.Sandpile.{laplacian_sum}

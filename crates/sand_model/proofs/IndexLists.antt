@@ -1,8 +1,5 @@
 -- Numbers that join a list when they begin to pass a test.
-use Rattle.std.proofs.Common.{ℕ, Bool, true, false, cond, not, ◌&&◌, List, [], ◌∷◌, ◌++◌, ◌≡◌, ◌≢◌, ◌+◌, ◌<◌, ◌≤◌, length, drop, get_or, append_assoc, length-append, refl, sym, ◌∙◌, ap, subst, arith, inl, inr}
-use Rattle.std.proofs.lemmas.Bool.{cases_Bool, cases_eq}
-use Rattle.std.proofs.lemmas.List.{append-nil, drop-append-le, get_or_append_left}
-use Rattle.sand_model.specs.Lists.{Lists}
+use Rattle.sand_model.proofs.Common.{ℕ, Bool, true, false, cond, not, ◌&&◌, List, [], ◌∷◌, ◌++◌, ◌≡◌, ◌≢◌, ◌+◌, ◌<◌, ◌≤◌, length, drop, get_or, append_assoc, length-append, refl, sym, ◌∙◌, ap, subst, arith, inl, inr, cases_Bool, cases_eq, append-nil, drop-append-le, get_or_append_left, Lists}
 use Rattle.sand_model.specs.IndexLists.{ListView, Joins}
 use Rattle.sand_model.proofs.Lists.{lists_push, lists_same}
 

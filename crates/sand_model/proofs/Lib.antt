@@ -15,3 +15,4 @@ pub mod SettledIfTight
 pub mod EachSettles
 pub mod NeighboursInSets
 pub mod EquivalenceIsLinear
+pub mod Common

@@ -1,12 +1,5 @@
 -- Lists of the numbers below n that pass a test: their members, their length, and how they grow and shrink.
-use Rattle.std.proofs.Common.{ℕ, zero, suc, Bool, true, false, cond, ltb, ◌≡◌, ◌≢◌, ◌+◌, ◌<◌, ◌≤◌, ◌⊎◌, ◌&&◌, inl, inr, refl, sym, ◌∙◌, ap, subst, arith, List, [], ◌∷◌, ◌++◌, length, take, get_or, All}
-use Rattle.std.proofs.lemmas.Bool.{cases_eq, cases_Bool, lt-ltb, le-ltb}
-use Rattle.std.proofs.lemmas.Bool.Decides.{nat_tests}
-use Rattle.std.proofs.lemmas.List.{get_or_read}
-use Rattle.std.proofs.lemmas.List.Sums.{sum_by_more_le, get_or-le-sum_by}
-use Rattle.std.proofs.lemmas.List.Elements.{All-from_get_or, All-head}
-use Rattle.sand_model.specs.Sand.{sum_below, occurrences, one_at}
-use Rattle.sand_model.specs.Lists.{Lists, one_if}
+use Rattle.sand_model.proofs.Common.{ℕ, zero, suc, Bool, true, false, cond, ltb, ◌≡◌, ◌≢◌, ◌+◌, ◌<◌, ◌≤◌, ◌⊎◌, ◌&&◌, inl, inr, refl, sym, ◌∙◌, ap, subst, arith, List, [], ◌∷◌, ◌++◌, length, take, get_or, All, cases_eq, cases_Bool, lt-ltb, le-ltb, nat_tests, get_or_read, sum_by_more_le, get_or-le-sum_by, All-from_get_or, All-head, sum_below, occurrences, one_at, Lists, one_if}
 use Rattle.sand_model.proofs.SumsBelow.{sum_below_same, sum_below-ones, one_at_same}
 use Rattle.sand_model.proofs.Occurrences.{occurrences-cons, occurrences-push, sum_below-occurrences}
 use Rattle.sand_model.proofs.Bounds.{at_most_all, fewer_than_all}
@@ -138,12 +131,6 @@ lists_pop n p q xs i list fail others = record {
       let few = at_most_once n p (i ∷ xs) j list in
       grind (arith, nat_tests, occurrences-cons i xs j, list.each j, others j);
 }
-
--- the same for the last number
-pub lists_shorter : (n : ℕ) (p q : ℕ → Bool) (xs : List ℕ) (i : ℕ) → Lists n p (xs ++ i ∷ [])
-    → q i ≡ false → ((j : ℕ) → j < n → j ≢ i → p j ≡ q j) → Lists n q xs
-lists_shorter n p q xs i list fail others = lists_pop n p q xs i
-    (record { each = λ j. omega (arith, occurrences-cons i xs j, occurrences-push xs i j, list.each j) }) fail others
 
 -- ---- a listing that grows with n
 

@@ -1,13 +1,8 @@
 -- The four places around a site: their number, that they are sites, and that neighbours are mutual.
-use Rattle.std.proofs.Common.{ℕ, zero, suc, ◌≡◌, ◌+◌, ◌-◌, ◌*◌, ◌/◌, ◌%◌, ◌<◌, ◌≤◌, Bool, true, false, cond, ltb, refl, ap, arith, List, [], ◌∷◌, length, Option, Some, None, All, sum_by, count_by, is_none, IfSome, get_or}
+use Rattle.sand_model.proofs.Common.{ℕ, zero, suc, ◌≡◌, ◌+◌, ◌-◌, ◌*◌, ◌/◌, ◌%◌, ◌<◌, ◌≤◌, Bool, true, false, cond, ltb, refl, ap, arith, List, [], ◌∷◌, length, Option, Some, None, All, sum_by, count_by, is_none, IfSome, get_or, ltb-true, ltb-false, nat_tests, sum_by-cons, le-div, div_below, mod_below, mod-mul-add, mul-add-lt, div-add-mod', All-cons, All-nil, Grid, joins, sites, places, occurrences, one_at, value_at}
 use Rattle.std.specs.List.{filter_map}
-use Rattle.std.proofs.lemmas.Bool.{ltb-true, ltb-false}
-use Rattle.std.proofs.lemmas.Bool.Decides.{nat_tests}
-use Rattle.std.proofs.lemmas.List.Sums.{sum_by-cons}
-use Rattle.std.proofs.lemmas.Nat.{le-div, div_below, mod_below, mod-mul-add, mul-add-lt, div-add-mod'}
-use Rattle.std.proofs.lemmas.List.Elements.{All-cons, All-nil}
-use Rattle.sand_model.specs.Grid.{Grid, joins, sites, north, west, east, south, places, neighbours, missing}
-use Rattle.sand_model.specs.Sand.{flow, occurrences, one_at, value_at}
+use Rattle.sand_model.specs.Grid.{north, west, east, south, neighbours, missing}
+use Rattle.sand_model.specs.Sand.{flow}
 
 sum_by-some : (u : ℕ → ℕ) (p : Option ℕ) (ps : List (Option ℕ))
     → sum_by u (filter_map (λ q. q) (p ∷ ps)) ≡ value_at u p + sum_by u (filter_map (λ q. q) ps)
@@ -31,10 +26,6 @@ pub occurrences_places : (g : Grid) (i j : ℕ) (ps : List (Option ℕ)) → ps 
     + value_at (λ k. one_at k j) (get_or ps 2 None) + value_at (λ k. one_at k j) (get_or ps 3 None)
 unfolding flow
 occurrences_places g i j ps e = rw e (flow_four g (λ k. one_at k j) i)
-
-pub cond_same : (b : Bool) (n : ℕ) → cond b n n ≡ n
-cond_same true n = refl
-cond_same false n = refl
 
 somes_and_nones : (ps : List (Option ℕ)) → length (filter_map (λ q. q) ps) + count_by is_none ps ≡ length ps
 somes_and_nones [] = refl
@@ -85,6 +76,7 @@ north_south g i j li lj =
     let below = row_below g.width g.height j pos in
     grind (arith, nat_tests, above.0, above.1, below.0, below.1)
 
+-- w - 1 after the first of a row is its last, and back; the last of a row is not just before one of the same row
 last_in_row : (w i j : ℕ) → 0 < w → i % w ≡ 0 → i + (w - 1) ≡ j → j % w + 1 < w → ⊥
 last_in_row w i j pos first e inside =
     let parts = div-add-mod' i w in

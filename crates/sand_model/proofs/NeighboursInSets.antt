@@ -1,9 +1,6 @@
 -- How many neighbours of a site are in a set.
-use Rattle.std.proofs.Common.{ℕ, Bool, true, false, ◌≡◌, ◌<◌, ◌≤◌, refl, arith, Option, Some, None, count_by}
-use Rattle.std.proofs.lemmas.Bool.{cases_Bool}
-use Rattle.sand_model.specs.Grid.{Grid, sites, neighbours, north, west, east, south}
-use Rattle.sand_model.specs.Sand.{flow, value_at}
-use Rattle.sand_model.specs.Lists.{one_if}
+use Rattle.sand_model.proofs.Common.{ℕ, Bool, true, false, ◌≡◌, ◌<◌, ◌≤◌, refl, arith, Option, Some, None, count_by, cases_Bool, Grid, sites, neighbours, north, west, east, south, value_at, one_if}
+use Rattle.sand_model.specs.Sand.{flow}
 use Rattle.sand_model.proofs.Flow.{flow_le, indicator}
 use Rattle.sand_model.proofs.Neighbours.{flow_four}
 use Rattle.sand_model.proofs.Lists.{at_most_one}

@@ -1,7 +1,5 @@
 -- How often a site is in a list of sites.
-use Rattle.std.proofs.Common.{ℕ, ◌≡◌, ◌+◌, ◌*◌, ◌<◌, sym, ◌∙◌, arith, List, [], ◌∷◌, ◌++◌, length, All}
-use Rattle.std.proofs.lemmas.List.Sums.{sum_by-cons, sum_by_push, sum_by-append}
-use Rattle.sand_model.specs.Sand.{sum_below, occurrences, one_at}
+use Rattle.sand_model.proofs.Common.{ℕ, ◌≡◌, ◌+◌, ◌*◌, ◌<◌, sym, ◌∙◌, arith, List, [], ◌∷◌, ◌++◌, length, All, sum_by-cons, sum_by_push, sum_by-append, sum_below, occurrences, one_at}
 use Rattle.sand_model.proofs.SumsBelow.{sum_below_same}
 use Rattle.sand_model.proofs.Flow.{sum_by_spread}
 use Rattle.sand_model.proofs.Sandpile.{sum_by_ones}

@@ -1,10 +1,7 @@
 -- The definitions over the natural numbers agree with those over the integers.
-use Rattle.std.proofs.Common.{ℕ, zero, suc, ◌≡◌, ◌+◌, ◌*◌, ◌<◌, refl, arith, List, [], ◌∷◌, sum_by}
-use Rattle.std.specs.Prelude.{ℤ, pos, negsuc, ◌+ℤ◌, ◌-ℤ◌, ◌*ℤ◌, ◌≤ℤ◌, ◌↔◌}
+use Rattle.sand_model.proofs.Common.{ℕ, zero, suc, ◌≡◌, ◌+◌, ◌*◌, ◌<◌, refl, arith, List, [], ◌∷◌, sum_by, ℤ, pos, negsuc, ◌+ℤ◌, ◌-ℤ◌, ◌*ℤ◌, ◌≤ℤ◌, ◌↔◌, sum_by-cons, Grid, sites, neighbours, missing, IsToppled, Stabilises, IsSettled}
 use Rattle.std.proofs.lemmas.Int.{ints}
-use Rattle.std.proofs.lemmas.List.Sums.{sum_by-cons}
-use Rattle.sand_model.specs.Grid.{Grid, sites, neighbours, missing}
-use Rattle.sand_model.specs.Sand.{sum_below, flow, IsToppled, Stabilises, IsSettled}
+use Rattle.sand_model.specs.Sand.{sum_below, flow}
 use Rattle.sand_model.specs.Integers.{whole_sum_by, whole_sum_below, laplacian, whole, IsEquivalent}
 use Rattle.sand_model.proofs.SumsBelow.{sum_below-add, sum_below-scale}
 use Rattle.sand_model.proofs.Sandpile.{flow_and_lost}

@@ -1,12 +1,8 @@
 -- The laws of piles: least action, settling in parts, the fall of the weight.
-use Rattle.std.proofs.Common.{ℕ, zero, suc, ◌≡◌, ◌+◌, ◌-◌, ◌*◌, ◌/◌, ◌%◌, ◌<◌, ◌≤◌, refl, sym, ◌∙◌, ap, arith, List, [], ◌∷◌, length, sum_by}
-use Rattle.std.proofs.lemmas.Bool.Decides.{nat_tests}
-use Rattle.std.proofs.lemmas.Nat.{div_below, div-add-mod', mod_below, div-mul-add}
-use Rattle.std.proofs.lemmas.List.Sums.{sum_by-cons}
-use Rattle.std.proofs.Math.Nat.{mul-le-mul_left}
-use Rattle.sand_model.specs.Grid.{Grid, sites, neighbours, missing, row, north, west, east, south}
+use Rattle.sand_model.proofs.Common.{ℕ, zero, suc, ◌≡◌, ◌+◌, ◌-◌, ◌*◌, ◌/◌, ◌%◌, ◌<◌, ◌≤◌, refl, sym, ◌∙◌, ap, arith, List, [], ◌∷◌, length, sum_by, nat_tests, div_below, div-add-mod', mod_below, div-mul-add, sum_by-cons, mul-le-mul_left, Grid, sites, neighbours, row, sum_below, occurrences, IsStable, IsToppled, Stabilises, IsUnderway, IsSettled, grains, topplings, lost, weight, value_at, one_at}
+use Rattle.sand_model.specs.Grid.{missing, north, west, east, south}
 use Rattle.sand_model.specs.Laws.{MayToppleAfter, AreLegal}
-use Rattle.sand_model.specs.Sand.{sum_below, occurrences, flow, IsStable, IsToppled, Stabilises, IsUnderway, IsSettled, grains, topplings, lost, weight, grain_weight, value_at, one_at}
+use Rattle.sand_model.specs.Sand.{flow, grain_weight}
 use Rattle.sand_model.proofs.SumsBelow.{sum_below-one_at, sum_below_same, sum_below_le, sum_below-add, sum_below_both, sum_below-scale}
 use Rattle.sand_model.proofs.Neighbours.{neighbours_at_most_four, flow_four, some_width}
 use Rattle.sand_model.proofs.Flow.{flow_le, flow_same, flow-add, flow_self_adjoint}
@@ -17,6 +13,7 @@ pub least_action : (g : Grid) (s u w : ℕ → ℕ) (i k : ℕ) → i < sites g
     → 4 * u i + 4 * k ≤ s i + flow g u i → u i + k ≤ w i
 least_action g s u w i k l stable below high = omega (arith, flow_le g u w below i l, stable.at_most_three i l)
 
+-- what flows by w flows by u and by the rest of w
 flow_rest : (g : Grid) (u w : ℕ → ℕ) → ((j : ℕ) → j < sites g → u j ≤ w j) → (i : ℕ) → i < sites g
     → flow g w i ≡ flow g u i + flow g (λ j. w j - u j) i
 flow_rest g u w below i l =
@@ -108,6 +105,7 @@ settled_same g s s' u u' t t' starts counts piles done = record {
 
 -- ---- sums
 
+-- the balance, weighted by f and summed over all sites: each toppling takes f four times and gives the neighbours' f
 balance_total : (g : Grid) (f s u t : ℕ → ℕ) → IsToppled g s u t
     → sum_below (sites g) (λ i. t i * f i) + 4 * sum_below (sites g) (λ i. u i * f i)
     ≡ sum_below (sites g) (λ i. s i * f i) + sum_below (sites g) (λ i. u i * flow g f i)
@@ -213,6 +211,7 @@ weight_right g i l =
     let far = λ (last : w ≤ i % w + 1). row_of w (i / w) 0 (i - (w - 1)) pos (omega arith) in
     grind (arith, nat_tests)
 
+-- the weight is a product of two straight lines in the row, so it bends by 2
 second_difference : (r d : ℕ) → 0 < d → r * (d + 1) + (r + 2) * (d - 1) + 2 ≡ 2 * ((r + 1) * d)
 second_difference r zero l = absurd (omega arith)
 second_difference r (suc e) l = let one : suc e - 1 ≡ e = omega arith in rw one (omega arith)

@@ -1,14 +1,10 @@
 -- Topplings settle the pile if they leave at most 3 at each site, and no forbidden set of sites that have toppled.
-use Rattle.std.proofs.Common.{ℕ, zero, suc, cond, eqb, ◌≡◌, ◌+◌, ◌-◌, ◌*◌, ◌<◌, ◌≤◌, inl, inr, refl, ap, arith, ⊎_elim}
-use Rattle.std.proofs.lemmas.Bool.{cases_eq, cases_lt, eq-eqb, eqb-true}
-use Rattle.std.proofs.lemmas.Bool.Decides.{nat_tests}
-use Rattle.std.proofs.Math.Nat.{mul-le-mul_left}
+use Rattle.sand_model.proofs.Common.{ℕ, zero, suc, cond, eqb, ◌≡◌, ◌+◌, ◌-◌, ◌*◌, ◌<◌, ◌≤◌, inl, inr, refl, ap, arith, ⊎_elim, cases_eq, cases_lt, eq-eqb, eqb-true, nat_tests, mul-le-mul_left, Grid, sites, flow, IsStable, IsToppled, Stabilises, IsSettled}
 use Rattle.sand_model.specs.Forbidden.{IsForbidden, IsTight}
-use Rattle.sand_model.specs.Grid.{Grid, sites}
-use Rattle.sand_model.specs.Sand.{flow, IsStable, IsToppled, Stabilises, IsSettled}
 use Rattle.sand_model.proofs.Flow.{flow_le, flow_same, flow-add, flow-scale, count_is_flow}
 use Rattle.sand_model.proofs.Sandpile.{flow_ones}
 
+-- a place where p is greatest
 pub greatest : (n : ℕ) (p : ℕ → ℕ) → 0 < n → (k : ℕ) × (k < n) × ((i : ℕ) → i < n → p i ≤ p k)
 greatest zero p l = absurd (omega arith)
 greatest (suc zero) p l = (0, omega arith, λ i m. let e : i ≡ 0 = omega arith in omega (arith, ap p e))
@@ -41,6 +37,7 @@ top_is_forbidden g t p q k balance apart inside top some = record {
       rw (count_is_flow g (λ j. eqb (p j) (p k)) i) (omega arith);
 }
 
+-- the balance, by how much u is above w and below it
 excess : (g : Grid) (s u w t : ℕ → ℕ) → IsToppled g s u t → Stabilises g s w → (i : ℕ) → i < sites g
     → t i + 4 * (u i - w i) + flow g (λ j. w j - u j) i ≤ 3 + 4 * (w i - u i) + flow g (λ j. u j - w j) i
 excess g s u w t done stable i l = omega (
@@ -52,6 +49,7 @@ excess g s u w t done stable i l = omega (
   flow_same g (λ j. u j + (w j - u j)) (λ j. w j + (u j - w j)) (λ j m. omega arith) i l,
 )
 
+-- the sites where u is most above w would be forbidden, and all have toppled
 never_above : (g : Grid) (s u w t : ℕ → ℕ) → IsToppled g s u t
     → IsTight g t u → Stabilises g s w → (i : ℕ) → i < sites g → u i ≤ w i
 never_above g s u w t done tight stable i l =

@@ -1,8 +1,5 @@
 -- A pile that is underway: legal topplings keep it underway, and when no site may topple it is settled.
-use Rattle.std.proofs.Common.{ℕ, ◌≡◌, ◌+◌, ◌*◌, ◌<◌, ◌≤◌, arith}
-use Rattle.std.proofs.lemmas.Bool.Decides.{nat_tests}
-use Rattle.sand_model.specs.Grid.{Grid, sites}
-use Rattle.sand_model.specs.Sand.{one_at, IsToppled, IsUnderway, IsSettled}
+use Rattle.sand_model.proofs.Common.{ℕ, ◌≡◌, ◌+◌, ◌*◌, ◌<◌, ◌≤◌, arith, nat_tests, Grid, sites, one_at, IsToppled, IsUnderway, IsSettled}
 use Rattle.sand_model.specs.Underway.{Advances}
 use Rattle.sand_model.proofs.Flow.{flow_same, flow_none, flow-add}
 use Rattle.sand_model.proofs.Sandpile.{least_action}

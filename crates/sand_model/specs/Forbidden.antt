@@ -1,5 +1,5 @@
 -- Forbidden sets of sites. A set of sites is a test, true at its sites.
--- Sources: Dhar 1990; Friedrich and Levine 2010 (topplings are least if none can be taken back).
+-- Sources: Dhar 1990; Friedrich and Levine 2013 (topplings are least if none can be taken back).
 use Rattle.std.specs.Prelude.{ℕ, Bool, ◌<◌, IsTrue, count_by}
 use Rattle.sand_model.specs.Grid.{Grid, sites, neighbours}
 

@@ -18,7 +18,7 @@
 //! that `w` stabilises `s` and `u` exceeds it somewhere. The sites where `u - w` is greatest have all toppled. Going
 //! back from `u` to `w` undoes as many topplings of each of them as of its neighbours in the set, and more than of its
 //! neighbours outside it. Since `w` leaves at most 3 there, the height in `t` is below the number of neighbours in the
-//! set. So the set is forbidden, a contradiction. (Friedrich and Levine 2010.)
+//! set. So the set is forbidden, a contradiction. (Friedrich and Levine 2013.)
 //!
 //! **A drop topples few.** Let `d` be the distance to the nearest open edge, counted from 1, let a grain fall at site
 //! `a`, and let `w = min(d, d(a))`. Along rows and along columns `d` is the least of straight lines that are 0 just

@@ -5,7 +5,7 @@ use crate::trying::refused;
 use sand_group::burning_times;
 use sand_model::Shape;
 use sand_testing::piles::open_pile;
-use sand_trees::{Tree, TreeFault, pile_of_tree, random_tree, tree_of_pile};
+use sand_trees::{Tree, TreeFault, pile_of_tree, random_recurrent, random_tree, tree_of_pile};
 use std::alloc::Global;
 use std::test::Fail;
 
@@ -41,10 +41,19 @@ fn piles_of_trees_report_out_of_memory(rt: HostRuntime) -> Result<(), Fail> {
         pile.pile().heights() == [0, 1].as_slice())
 }
 
-// The first words of the stream, modulo 4, are 2, 1, 3, 3 and 0: the first walk goes east, back, and into the sink.
+// The first pairs of bits of the stream are 2, 3 and 3: the first walk goes east and into the sink, and so does the next one.
 #[test]
 fn random_trees_report_out_of_memory(rt: HostRuntime) -> Result<(), Fail> {
     let shape = Shape::new(3, 1)?;
     refused!(rt, "random_tree", alloc => random_tree(alloc, shape, 0, 0).map_err(TreeFault::Memory), tree =>
-        tree.directions() == [3, 3, 0].as_slice())
+        tree.directions() == [2, 3, 3].as_slice())
+}
+
+// The pile of that tree: the first site is at depth 2, with no other edge before its own to depth 1. The others are at depth 1:
+// the second one has a sink before its own, and the third one two.
+#[test]
+fn random_recurrent_piles_report_out_of_memory(rt: HostRuntime) -> Result<(), Fail> {
+    let shape = Shape::new(3, 1)?;
+    refused!(rt, "random_recurrent", alloc => random_recurrent(alloc, shape, 0, 0).map_err(TreeFault::Memory), pile =>
+        pile.pile().heights() == [0, 3, 3].as_slice())
 }

@@ -1,31 +1,20 @@
 -- A pile driven by fronts, before and after a drop.
-use Rattle.std.proofs.Common.{ℕ, List, [], length, take, ◌≡◌, ◌+◌, ◌^◌, ◌<◌, ◌≤◌, refl, sym, ◌∙◌, ap, subst, arith, sum}
-use Rattle.std.specs.Prelude.{slice_index}
-use Rattle.std.proofs.lemmas.List.{ext_get_or}
-use Rattle.sand_model.specs.Grid.{sites}
-use Rattle.sand_model.specs.Sand.{IsSettled, one_at}
-use Rattle.sand_model.specs.Piles.{PileView, IsPile, height_of, most_grains}
+use Rattle.sand_settle.proofs.Common.{ℕ, List, length, take, ◌≡◌, ◌+◌, ◌^◌, ◌<◌, ◌≤◌, refl, sym, ◌∙◌, ap, subst, arith, sum, slice_index, ext_get_or, sites, IsSettled, one_at, most_grains, settled_same, at_most_sum_below, Avalanche, IsAvalanche, HasWaves, SettledView, IsSomeSettledRecord, odometer_of, IsPaid, TakesGrain, topplings_between, driven_record, IsDriven}
 use Rattle.sand_model.specs.Edges.{to_edge}
 use Rattle.sand_model.proofs.Edges.{topples_few}
-use Rattle.sand_model.proofs.Sandpile.{settled_same}
-use Rattle.sand_model.proofs.Bounds.{at_most_sum_below}
-use Rattle.sand_fronts.specs.TiledPiles.{TiledView, IsTiledView, HasDropped, by_site, toppled_between}
+use Rattle.sand_fronts.specs.TiledPiles.{TiledView, IsTiledView, HasDroppedOnTiles, by_site, toppled_between}
 use Rattle.sand_fronts.proofs.OnPiles.{avalanche_same}
 use Rattle.sand_fronts.proofs.WaveSizes.{waves_add_up, written_whole}
 use Rattle.sand_fronts.proofs.NewPiles.{by_site_at, by_site_le, by_site_long}
-use Rattle.sand_settle.specs.Avalanches.{Avalanche, IsAvalanche, HasWaves}
-use Rattle.sand_settle.specs.Settling.{SettledView, IsSettledRecord, IsSomeSettledRecord, odometer_of}
-use Rattle.sand_settle.specs.Drops.{IsAfter, IsPaid, TakesGrain, one_view, topplings_between}
-use Rattle.sand_settle.specs.Driven.{driven_record, IsDriven}
-use Rattle.sand_settle.proofs.OneRecord.{same_parts, some_record}
-use Rattle.sand_settle.proofs.Drops.{after_start, paid_start, paid_after, grains_after, some_record_after}
+use Rattle.sand_settle.proofs.OneRecord.{same_parts}
+use Rattle.sand_settle.proofs.Drops.{paid_after, grains_after, some_record_after}
 
 -- ---- before a drop
 
--- the tiles have the heights of the record r of the start, none of their sites has toppled, and the sums are those of r
-pub record IsAtStart (start : PileView) (r : SettledView) (t : TiledView) (all gone : ℕ) : Type 0 where
-  pub pile : IsPile start
-  pub record_of : IsSettledRecord start.grid (height_of start) r
+-- the tiles have the heights of the record r, none of their sites has toppled, and the sums are those of r
+pub record IsAtStart (r : SettledView) (t : TiledView) (all gone : ℕ) : Type 0 where
+  pub paid : IsPaid r
+  pub settled : IsSomeSettledRecord r
   pub one_grid : t.grid ≡ r.pile.grid
   pub by_site : IsTiledView t
   pub heights : (j : ℕ) → j < sites r.pile.grid → slice_index t.heights j ≡ slice_index r.pile.heights j
@@ -34,38 +23,30 @@ pub record IsAtStart (start : PileView) (r : SettledView) (t : TiledView) (all g
   pub all_lost : gone ≡ r.lost
 
 -- so its record is r
-start_record : {start : PileView} {r : SettledView} {t : TiledView} {all gone : ℕ} → IsAtStart start r t all gone
+pub start_record : {r : SettledView} {t : TiledView} {all gone : ℕ} → IsAtStart r t all gone
     → r ≡ driven_record r t all gone
-start_record {start} {r} {t} {all} {gone} at =
+start_record {r} {t} {all} {gone} at =
     let g = r.pile.grid in
-    let done = at.record_of in
-    let same = ap sites done.grid in
     let tiled = at.by_site.heights_each ∙ ap sites at.one_grid in
     let times : ℕ → ℕ = λ j. slice_index r.odometer j + slice_index t.times j in
-    let heights = ext_get_or 0 r.pile.heights t.heights (omega (arith, done.heights_each))
-    (λ j l. sym (at.heights j (omega (arith, done.heights_each)))) in
-    let counts = ext_get_or 0 r.odometer (by_site g times) (omega (arith, done.odometer_each, by_site_long g times))
-    (λ j l. omega (arith, at.none j, by_site_at g times j (omega (arith, done.odometer_each)))) in
+    let heights = ext_get_or 0 r.pile.heights t.heights (omega (arith, at.paid.heights_each))
+    (λ j l. sym (at.heights j (omega (arith, at.paid.heights_each)))) in
+    let counts = ext_get_or 0 r.odometer (by_site g times) (omega (arith, at.paid.odometer_each, by_site_long g times))
+    (λ j l. omega (arith, at.none j, by_site_at g times j (omega (arith, at.paid.odometer_each)))) in
     same_parts refl heights counts (sym at.all_topplings) (sym at.all_lost)
 
-pub driven_start : {start : PileView} {r : SettledView} {t : TiledView} {all gone grains : ℕ}
-    → IsAtStart start r t all gone → grains ≡ sum r.pile.heights + gone
+pub driven_start : {r : SettledView} {t : TiledView} {all gone grains : ℕ}
+    → IsAtStart r t all gone → grains ≡ sum r.pile.heights + gone
     → IsDriven r t 0 all gone grains
-driven_start {start} {r} at whole =
+driven_start at whole =
     let same = start_record at in
-    let done = at.record_of in
     record {
       one_grid = at.one_grid;
-      paid = subst IsPaid same (paid_start at.pile done);
-      settled = subst IsSomeSettledRecord same (some_record done);
+      paid = subst IsPaid same at.paid;
+      settled = subst IsSomeSettledRecord same at.settled;
       all_grains = omega (arith, whole, ap (λ (q : SettledView). sum q.pile.heights) same);
       bound = omega arith;
     }
-
-pub driven_view : {start : PileView} {r : SettledView} {t : TiledView} {all gone : ℕ} → IsAtStart start r t all gone
-    → IsAfter start [] (one_view (driven_record r t all gone) 0)
-driven_view {start} at =
-    subst (λ q. IsAfter start [] (one_view q 0)) (start_record at) (after_start at.pile at.record_of)
 
 -- ---- a drop
 
@@ -89,7 +70,7 @@ pub record DropsOn (r : SettledView) (t u : TiledView) (site : ℕ) (f : Avalanc
 
 pub drops_on : {r : SettledView} {t u : TiledView} {site : ℕ} {f : Avalanche} {number all gone grains : ℕ}
     → IsDriven r t number all gone grains → site < sites r.pile.grid → grains < most_grains
-    → HasDropped t site f u
+    → HasDroppedOnTiles t site f u
     → DropsOn r t u site f number all gone grains
 drops_on {r} {t} {u} {site} {f} {all = all} {gone = gone} driven inside room has =
     let g = r.pile.grid in

@@ -1,18 +1,7 @@
 -- One more drop on a settled pile, and the result of a list of drops.
-use Rattle.std.proofs.Common.{ℕ, ◌≡◌, ◌+◌, ◌-◌, ◌*◌, ◌<◌, ◌≤◌, ◌^◌, refl, sym, ◌∙◌, ap, subst, arith, List, [], ◌∷◌, ◌++◌, length, sum, get_or, append_assoc}
-use Rattle.std.proofs.lemmas.List.{length-append, append-nil}
+use Rattle.sand_settle.proofs.Common.{ℕ, ◌≡◌, ◌+◌, ◌*◌, ◌<◌, ◌≤◌, refl, sym, ◌∙◌, ap, subst, arith, List, [], ◌∷◌, ◌++◌, sum, Option, Some, None, append_assoc, ⊎_elim, MatchOption, cases_lt, length-append, append-nil, Grid, sites, missing, occurrences, one_at, grains, topplings, grain_weight, PileView, IsPile, height_of, most_grains, sum_below-add, sum_below_both, sum_below_same, laplacian_sum, weight_after, settled_in_parts, settled_same, settled_stable, sum_is_grains, weight_bound, SettledView, IsSettledRecord, IsSomeSettledRecord, odometer_of, DrivenView, IsAfter, topplings_between, TakesGrain, Drops, DropsAll, IsPaid, driven_view, IsOnePile}
 use Rattle.std.proofs.lemmas.List.Elements.{All-push}
-use Rattle.sand_model.specs.Grid.{Grid, sites, missing}
-use Rattle.sand_model.specs.Sand.{occurrences, one_at, IsSettled, grains, topplings, grain_weight}
-use Rattle.sand_model.specs.Piles.{PileView, IsPile, height_of, most_grains}
-use Rattle.sand_model.proofs.SumsBelow.{sum_below-add, sum_below_both, sum_below_same}
 use Rattle.sand_model.proofs.Occurrences.{occurrences-push}
-use Rattle.sand_model.proofs.Sandpile.{laplacian_sum, weight_after, settled_in_parts, settled_same, settled_stable}
-use Rattle.sand_model.proofs.Heights.{sum_is_grains}
-use Rattle.sand_model.proofs.Bounds.{weight_bound, at_most_sum_below}
-use Rattle.sand_settle.specs.Settling.{SettledView, IsSettledRecord, IsSomeSettledRecord, odometer_of}
-use Rattle.sand_settle.specs.Drops.{OneView, IsAfter, topplings_between, TakesGrain, Drops, DropsAll, IsPaid, one_view, IsOnePile}
-use Rattle.sand_settle.specs.Avalanches.{Avalanche, IsAvalanche}
 use Rattle.sand_settle.proofs.OneRecord.{record_by_site, some_record}
 use Rattle.sand_settle.proofs.Underway.{topplings_at}
 pub use Rattle.sand_fronts.proofs.OnPiles.{avalanche_same}
@@ -49,7 +38,7 @@ paid_start {start} {r} pile done =
     }
 
 pub after_start : {start : PileView} {r : SettledView} → IsPile start → IsSettledRecord start.grid (height_of start) r
-    → IsAfter start [] (one_view r 0)
+    → IsAfter start [] (driven_view r 0)
 after_start {start} {r} pile done = record {
   start_pile = pile;
   all_sites = λ k d l. absurd (omega arith);
@@ -145,7 +134,7 @@ pub some_record_after : {r q : SettledView} {site : ℕ} → IsSomeSettledRecord
     → IsSomeSettledRecord q
 some_record_after (s, before) taken = some_record (record_of_more s before taken)
 
-pub after_drop : (start : PileView) (history : List ℕ) (site : ℕ) (v w : OneView)
+pub after_drop : (start : PileView) (history : List ℕ) (site : ℕ) (v w : DrivenView)
     → Drops v site w → IsAfter start history v
     → IsAfter start (history ++ site ∷ []) w
 after_drop start history site v w drop after =
@@ -163,86 +152,41 @@ after_drop start history site v w drop after =
       grains = omega (arith, drop.grains, after.grains);
     }
 
-all_after : (start : PileView) (past history : List ℕ) (v w : OneView) → IsAfter start past v → DropsAll v history w
+all_after : (start : PileView) (past history : List ℕ) (v w : DrivenView) → IsAfter start past v → DropsAll v history w
     → IsAfter start (past ++ history) w
 all_after start past [] v w after same = rw append-nil (subst (IsAfter start past) same after)
 all_after start past (site ∷ history) v w after (u, first, rest) =
     subst (λ h. IsAfter start h w) (append_assoc past (site ∷ []) history)
     (all_after start (past ++ site ∷ []) history u w (after_drop start past site v u first after) rest)
 
-pub drops_add_up : (start : PileView) (history : List ℕ) (v w : OneView) → IsAfter start [] v → DropsAll v history w
+pub drops_add_up : (start : PileView) (history : List ℕ) (v w : DrivenView) → IsAfter start [] v → DropsAll v history w
     → IsAfter start history w
 drops_add_up start history v w after drops = all_after start [] history v w after drops
 
--- ---- a drop in the code
-
--- the record r with the heights k and the odometer new, which an avalanche has left
-abbrev pub poured : SettledView → List ℕ → List ℕ → Avalanche → SettledView
-poured r k new a = record {
-  pile = record { grid = r.pile.grid; heights = k };
-  odometer = new;
-  topplings = r.topplings + a.size;
-  lost = r.lost + a.lost;
-}
-
--- a grain at the site sets off the avalanche a, which leads from the record r to the heights k and the odometer new
-pub record Pours (r : SettledView) (site : ℕ) (k new : List ℕ) (a : Avalanche) : Type 0 where
-  pub taken : TakesGrain r site (poured r k new a)
-  pub avalanche : IsAvalanche r.pile.grid site (topplings_between r (poured r k new a)) a
-  pub paid : IsPaid (poured r k new a)
-  pub grains : sum k + a.lost ≡ sum r.pile.heights + 1
-
-pub pours : {r : SettledView} {site : ℕ} {g : Grid} {h k old new : List ℕ} {a : Avalanche}
-    → IsPaid r → site < sites r.pile.grid
-    → sum r.pile.heights + r.lost < most_grains → g ≡ r.pile.grid → h ≡ r.pile.heights
-    → old ≡ r.odometer → length k ≡ length h → length new ≡ length old
-    → ((j : ℕ) → get_or old j 0 ≤ get_or new j 0)
-    → IsSettled g (λ j. get_or h j 0 + one_at site j) (λ j. get_or new j 0 - get_or old j 0) (λ j. get_or k j 0)
-    → IsAvalanche g site (λ j. get_or new j 0 - get_or old j 0) a
-    → Pours r site k new a
-pours {r} {site} {g} {h} {k} {old} {new} {a} paid inside room grid list same heights counts rises done set_off =
-    let fall : IsAvalanche r.pile.grid site (topplings_between r (poured r k new a)) a = rw (grid, same) at set_off in
-    let taken : TakesGrain r site (poured r k new a) = record {
-      grid = refl;
-      heights_each = heights ∙ ap length list ∙ paid.heights_each;
-      odometer_each = counts ∙ ap length same ∙ paid.odometer_each;
-      never_falls = rw same at rises;
-      settled = rw (grid, list, same) at done;
-      more_topplings = ap (λ m. r.topplings + m) fall.size;
-      more_lost = ap (λ m. r.lost + m) fall.all_lost;
-    } in
-    record {
-      taken = taken;
-      avalanche = fall;
-      paid = paid_after paid inside room taken;
-      grains = omega (arith, grains_after paid inside taken);
-    }
-
--- no site has toppled often
-pub few_so_far : {r : SettledView} (u : List ℕ) → IsPaid r → u ≡ r.odometer → (j : ℕ) → j < sites r.pile.grid
-    → get_or u j 0 < 2 ^ 59
-few_so_far {r} u paid same j inside =
-    let part = at_most_sum_below (sites r.pile.grid) (odometer_of r) j inside in
-    let here = ap (λ xs. get_or xs j 0) same in
-    omega (arith, paid.all_topplings, paid.paid, paid.limit)
-
 -- ---- the pile of one thread after a drop
 
-pub kept_after : {number site : ℕ} {r q : SettledView}
-    → IsOnePile r number → site < sites r.pile.grid
-    → sum r.pile.heights + r.lost < most_grains → TakesGrain r site q
-    → IsOnePile q (number + 1)
-kept_after before inside room taken = record {
-  paid = paid_after before.paid inside room taken;
-  bound = omega (arith, before.bound, grains_after before.paid inside taken);
-}
+-- the driven pile of the last drop, or a new one
+pub kept_or_new : (R : DrivenView → Type 0) {r : SettledView} {number : ℕ} (driven : Option DrivenView)
+    → IsOnePile r driven number → MatchOption driven (R (driven_view r 0)) R → R (driven_view r number)
+kept_or_new R {r} {number} None is new =
+    subst (λ n. R (driven_view r n)) (⊎_elim (λ (some : 0 < number). let no = is.made some in absurd cc)
+    (λ (none : number ≤ 0). omega arith) (cases_lt 0 number)) new
+kept_or_new R (Some v) is kept = subst R is.same kept
 
-pub drops_from : (number : ℕ) {site : ℕ} {r q : SettledView} {v : OneView}
-    → IsPaid r → one_view r number ≡ v → site < sites r.pile.grid
+-- the driven pile after a drop, by its record q
+pub view_after : {w : DrivenView} {site number : ℕ} {r q : SettledView} → IsPaid r → Drops (driven_view r number) site w
+    → w.settled ≡ q → w ≡ driven_view q w.number
+view_after {w} {q = q} paid drop same =
+    let grains : w.grains ≡ sum q.pile.heights + q.lost =
+    rw (← same) (omega (arith, drop.grains, grains_after paid drop.inside drop.settled)) in
+    λ i. record { settled = same i; number = w.number; grains = grains i }
+
+pub drops_from : (number : ℕ) {site : ℕ} {r q : SettledView} {v : DrivenView}
+    → IsPaid r → driven_view r number ≡ v → site < sites r.pile.grid
     → sum r.pile.heights + r.lost < most_grains → TakesGrain r site q
-    → Drops v site (one_view q (number + 1))
+    → Drops v site (driven_view q (number + 1))
 drops_from number {site} {r} {q} paid seen inside room taken =
-    let P : OneView → Type 0 = λ u. Drops u site (one_view q (number + 1)) in
+    let P : DrivenView → Type 0 = λ u. Drops u site (driven_view q (number + 1)) in
     subst P seen
     (record {
       inside = inside;

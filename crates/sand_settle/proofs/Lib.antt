@@ -4,4 +4,6 @@ pub mod Underway
 pub mod Records
 pub mod Drops
 pub mod Driven
+pub mod NearSites
 pub mod OneRecord
+pub mod Common

@@ -1,14 +1,5 @@
 -- Heights have one settled record, which depends only on those at the sites of the grid.
-use Rattle.std.proofs.Common.{ℕ, ◌≡◌, ◌*◌, ◌<◌, ◌∙◌, refl, sym, ap, subst, arith}
-use Rattle.std.specs.Prelude.{slice_index}
-use Rattle.std.proofs.lemmas.List.{ext_get_or}
-use Rattle.sand_model.specs.Grid.{Grid, sites, missing}
-use Rattle.sand_model.specs.Sand.{topplings, lost, IsStable, IsSettled}
-use Rattle.sand_model.specs.Piles.{height_of}
-use Rattle.sand_model.proofs.Sandpile.{settled_once, settled_same}
-use Rattle.sand_model.proofs.SumsBelow.{sum_below_none}
-use Rattle.sand_model.proofs.Underway.{underway_start, underway_end}
-use Rattle.sand_settle.specs.Settling.{SettledView, IsSettledRecord, IsSomeSettledRecord, odometer_of}
+use Rattle.sand_settle.proofs.Common.{ℕ, ◌≡◌, ◌*◌, ◌<◌, ◌∙◌, refl, sym, ap, subst, arith, slice_index, ext_get_or, Grid, sites, missing, topplings, lost, IsStable, IsSettled, height_of, settled_once, settled_same, sum_below_none, underway_start, underway_end, SettledView, IsSettledRecord, IsSomeSettledRecord, odometer_of}
 
 -- records with the same parts are the same
 pub same_parts : {r q : SettledView} → r.pile.grid ≡ q.pile.grid → r.pile.heights ≡ q.pile.heights

@@ -1,16 +1,5 @@
 -- The settled record of a pile, from its parts.
-use Rattle.std.proofs.Common.{ℕ, ◌≡◌, ◌-◌, ◌*◌, ◌^◌, ◌<◌, ◌≤◌, ◌∙◌, refl, sym, ap, subst, arith, List, length, replicate, sum, get_or}
-use Rattle.std.specs.Prelude.{slice_index}
-use Rattle.std.proofs.lemmas.List.{length-replicate}
-use Rattle.sand_model.specs.Grid.{Grid, sites, missing}
-use Rattle.sand_model.specs.Sand.{IsStable, IsSettled, weight}
-use Rattle.sand_model.specs.Piles.{PileView, IsPile, height_of}
-use Rattle.sand_model.proofs.Sandpile.{weight_after}
-use Rattle.sand_model.proofs.Heights.{sum_is_grains, sum_left}
-use Rattle.sand_model.proofs.Bounds.{topplings_bound}
-use Rattle.sand_model.proofs.Underway.{underway_start, underway_end}
-use Rattle.sand_model.proofs.SumsBelow.{sum_below_none}
-use Rattle.sand_settle.specs.Settling.{SettledView, IsSettledRecord}
+use Rattle.sand_settle.proofs.Common.{ℕ, ◌≡◌, ◌-◌, ◌*◌, ◌^◌, ◌<◌, ◌≤◌, ◌∙◌, refl, sym, ap, subst, arith, List, length, replicate, sum, get_or, slice_index, length-replicate, Grid, sites, missing, IsStable, IsSettled, weight, PileView, IsPile, height_of, weight_after, sum_is_grains, sum_left, topplings_bound, underway_start, underway_end, sum_below_none, SettledView, IsSettledRecord}
 use Rattle.sand_settle.proofs.OneRecord.{same_parts}
 use Rattle.sand_settle.proofs.Underway.{zero_at}
 

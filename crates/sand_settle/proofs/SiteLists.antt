@@ -1,14 +1,7 @@
 -- Lists of the sites that may topple, when one height is written.
-use Rattle.std.proofs.Common.{ℕ, Bool, ◌≡◌, ◌≢◌, ◌+◌, ◌-◌, ◌*◌, ◌/◌, ◌<◌, ◌≤◌, refl, sym, ◌∙◌, ap, subst, drop, arith, List, [], ◌∷◌, ◌++◌, length, get_or, cond, ltb, leb, not, ◌&&◌}
+use Rattle.sand_settle.proofs.Common.{ℕ, Bool, ◌≡◌, ◌≢◌, ◌+◌, ◌-◌, ◌*◌, ◌/◌, ◌<◌, ◌≤◌, refl, sym, ◌∙◌, ap, subst, drop, arith, List, [], ◌∷◌, ◌++◌, length, get_or, cond, ltb, leb, not, ◌&&◌, lt-leb, le-leb, leb-true, leb-false, get_or-set_same, get_or-set_other, drop_more, Lists, ListView, lists_pop, front_below, front_passes, none_passes, joins_if, may_topple, UnstableJoin}
 use Rattle.std.proofs.Math.ListN.{set}
-use Rattle.std.proofs.lemmas.Bool.{lt-leb, le-leb, leb-true, leb-false}
 use Rattle.std.proofs.lemmas.Bool.Decides.{nat_tests}
-use Rattle.std.proofs.lemmas.List.{get_or-set_same, get_or-set_other, drop_more}
-use Rattle.sand_model.specs.Lists.{Lists}
-use Rattle.sand_model.specs.IndexLists.{ListView}
-use Rattle.sand_model.proofs.Lists.{lists_pop, front_below, front_passes, none_passes}
-use Rattle.sand_model.proofs.IndexLists.{joins_if}
-use Rattle.sand_settle.specs.SiteLists.{may_topple, UnstableJoin}
 
 others_kept : (test : ℕ → Bool) (h : List ℕ) (i v j : ℕ) → j ≢ i → test (get_or h j 0) ≡ test (get_or (set h i v) j 0)
 others_kept test h i v j ne = ap test (sym (get_or-set_other h i j v 0 ne))

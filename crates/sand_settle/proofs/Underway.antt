@@ -1,16 +1,5 @@
 -- A pile that is being settled, turn by turn.
-use Rattle.std.proofs.Common.{ℕ, ◌≡◌, ◌+◌, ◌*◌, ◌^◌, ◌<◌, ◌≤◌, arith, List, length, replicate, sum, get_or, inl, inr}
-use Rattle.std.proofs.lemmas.Bool.{cases_lt}
-use Rattle.std.proofs.lemmas.List.{get_or-replicate, get_or_past, length-replicate}
-use Rattle.sand_model.specs.Grid.{Grid, IsGrid, sites}
-use Rattle.sand_model.specs.Sand.{one_at, IsToppled, topplings, weight}
-use Rattle.sand_model.proofs.SumsBelow.{sum_below_none, sum_below_both, sum_below-one_at}
-use Rattle.sand_model.proofs.Sandpile.{weight_after, laplacian_sum}
-use Rattle.sand_model.proofs.Heights.{sum_is_grains}
-use Rattle.sand_model.proofs.Bounds.{weight_bound}
-use Rattle.sand_model.proofs.Underway.{underway_step}
-use Rattle.sand_model.specs.Underway.{Advances}
-use Rattle.sand_model.specs.Piles.{most_grains}
+use Rattle.sand_settle.proofs.Common.{ℕ, ◌≡◌, ◌+◌, ◌*◌, ◌^◌, ◌<◌, ◌≤◌, arith, List, length, replicate, sum, get_or, inl, inr, cases_lt, get_or-replicate, get_or_past, length-replicate, Grid, IsGrid, sites, one_at, IsToppled, topplings, weight, sum_below_none, sum_below_both, sum_below-one_at, weight_after, laplacian_sum, sum_is_grains, weight_bound, underway_step, Advances, most_grains}
 
 pub topplings_at : (g : Grid) (i k : ℕ) → i < sites g → topplings g (λ j. k * one_at i j) ≡ k
 topplings_at g i k l = sum_below-one_at (sites g) i (λ j. k) l

@@ -1,23 +1,22 @@
 -- What contracts see of the pile of one thread, and what makes it the settled record of its start and its drops.
 -- Source: chip-firing; settling in two parts is settling at once, so drops may settle one after another (Dhar 1990).
-use Rattle.std.specs.Prelude.{ℕ, ◌≡◌, ◌+◌, ◌-◌, ◌*◌, ◌<◌, ◌≤◌, List, [], ◌∷◌, All, length, sum, slice_index}
+use Rattle.std.specs.Prelude.{ℕ, ◌≡◌, ◌+◌, ◌-◌, ◌*◌, ◌<◌, ◌≤◌, List, [], ◌∷◌, All, length, sum, Option, IfSome, IsSome}
 use Rattle.sand_model.specs.Grid.{Grid, IsGrid, sites}
 use Rattle.sand_model.specs.Sand.{IsStable, IsSettled, one_at, occurrences, topplings, lost, weight}
 use Rattle.sand_model.specs.Piles.{PileView, IsPile, height_of, most_grains}
-use Rattle.sand_fronts.specs.TiledPiles.{TiledView}
 use Rattle.sand_settle.specs.Settling.{SettledView, IsSettledRecord, odometer_of}
 
 -- the settled record since the start, the number of drops, and the grains of the start and the drops
-pub record OneView : Type 0 where
+pub record DrivenView : Type 0 where
   pub settled : SettledView
   pub number : ℕ
   pub grains : ℕ
 
-abbrev pub grid_of_one_pile : OneView → Grid
-grid_of_one_pile v = v.settled.pile.grid
+abbrev pub grid_of_driven : DrivenView → Grid
+grid_of_driven v = v.settled.pile.grid
 
 -- v is the result of this start and these drops: the settled record of the start and the drops
-pub record IsAfter (start : PileView) (history : List ℕ) (v : OneView) : Type 0 where
+pub record IsAfter (start : PileView) (history : List ℕ) (v : DrivenView) : Type 0 where
   pub start_pile : IsPile start
   pub all_sites : All (λ j. j < sites start.grid) history
   pub limit : sum start.heights + length history ≤ most_grains
@@ -41,17 +40,17 @@ pub record TakesGrain (r : SettledView) (site : ℕ) (q : SettledView) : Type 0 
   pub more_lost : q.lost ≡ r.lost + lost r.pile.grid (topplings_between r q)
 
 -- a drop at a site leads from v to w
-pub record Drops (v : OneView) (site : ℕ) (w : OneView) : Type 0 where
-  pub inside : site < sites (grid_of_one_pile v)
+pub record Drops (v : DrivenView) (site : ℕ) (w : DrivenView) : Type 0 where
+  pub inside : site < sites (grid_of_driven v)
   pub room : v.grains < most_grains
   pub settled : TakesGrain v.settled site w.settled
   pub number : w.number ≡ v.number + 1
   pub grains : w.grains ≡ v.grains + 1
 
 -- drops at the sites of a list, one by one, lead from v to w
-abbrev pub DropsAll : OneView → List ℕ → OneView → Type 0
+abbrev pub DropsAll : DrivenView → List ℕ → DrivenView → Type 0
 DropsAll v [] w = v ≡ w
-DropsAll v (site ∷ history) w = (u : OneView) × Drops v site u × DropsAll u history w
+DropsAll v (site ∷ history) w = (u : DrivenView) × Drops v site u × DropsAll u history w
 
 -- what holds of a settled record by itself: its sums are right and small, however it came about
 pub record IsPaid (r : SettledView) : Type 0 where
@@ -64,16 +63,11 @@ pub record IsPaid (r : SettledView) : Type 0 where
   pub paid : 2 * r.topplings + weight r.pile.grid (height_of r.pile) ≤ 16512 * (sum r.pile.heights + r.lost)
 
 -- a record, seen with the grains that are on the pile or were lost
-abbrev pub one_view : SettledView → ℕ → OneView
-one_view r number = record { settled = r; number = number; grains = sum r.pile.heights + r.lost }
+abbrev pub driven_view : SettledView → ℕ → DrivenView
+driven_view r number = record { settled = r; number = number; grains = sum r.pile.heights + r.lost }
 
--- a settled pile is on tiles, where no topplings are counted
-pub record IsOnTiles (p : PileView) (t : TiledView) : Type 0 where
-  pub one_grid : t.grid ≡ p.grid
-  pub heights : t.heights ≡ p.heights
-  pub uncounted : (j : ℕ) → slice_index t.times j ≡ 0
-
--- the record is right, and each drop added a grain
-pub record IsOnePile (r : SettledView) (number : ℕ) : Type 0 where
+-- the record is right, and a driven pile, if there is one, has the same; after the first drop there is one
+pub record IsOnePile (r : SettledView) (driven : Option DrivenView) (number : ℕ) : Type 0 where
   pub paid : IsPaid r
-  pub bound : number ≤ sum r.pile.heights + r.lost
+  pub same : IfSome driven (λ v. v ≡ driven_view r number)
+  pub made : 0 < number → IsSome driven

@@ -5,11 +5,11 @@ use Rattle.sand_model.specs.Sand.{IsStable, IsSettled, grains, topplings}
 use Rattle.sand_model.specs.Piles.{PileView, height_of}
 use Rattle.sand_settle.specs.Settling.{SettledView, IsSettledRecord, odometer_of}
 use Rattle.sand_settle.specs.Avalanches.{WavesLead}
-use Rattle.sand_settle.specs.Drops.{OneView, IsAfter, DropsAll}
+use Rattle.sand_settle.specs.Drops.{DrivenView, IsAfter, DropsAll}
 
 -- after any list of drops, one by one, the record is the settled record of the start and the list
 abbrev pub DropsAddUp : Type 0
-DropsAddUp = (start : PileView) (history : List ℕ) (v w : OneView) → IsAfter start [] v → DropsAll v history w
+DropsAddUp = (start : PileView) (history : List ℕ) (v w : DrivenView) → IsAfter start [] v → DropsAll v history w
     → IsAfter start history w
 
 -- heights that agree at each site have the same settled records

@@ -1,12 +1,13 @@
-//! How a pile is settled: by the queue, or by a guess that is certified.
+//! How a pile is settled: by the queue, or by a claim that is certified.
 //!
 //! The queue is the plain way, always right, and fast if little topples. A light pile, of which a bound shows that not
-//! much topples (`is_light`), goes to the queue at once, and stays there. On other piles the queue comes first, for a few
-//! turns per site, unless the pile is found to be high (`sand_guess::is_high`). If the queue has not settled the pile, its
-//! odometer is claimed: by toppling on tiles if the pile is low and flat (`sand_guess::toppled`), and then by a guess
-//! (`sand_guess::guessed`). A claim is certified (`sand_certify`), which is a proof. If every claim is rejected, the
-//! queue settles the pile from the start, however long that takes. Nothing is proved of what `sand_guess` returns: a
-//! wrong claim costs time, and the result is the same.
+//! much topples (`is_light`), goes to the queue at once, and stays there. The odometer of a small and dense pile is claimed
+//! by sweeps (`sand_guess::swept`). On other piles the queue comes first, for a few turns per site, unless the pile is
+//! found to be high (`sand_guess::is_high`). If the queue has not settled the pile, its odometer is claimed: by toppling
+//! on tiles if the pile is low and flat (`sand_guess::toppled`), and then by a guess (`sand_guess::guessed`). A claim is
+//! certified (`sand_certify`), which is a proof. If every claim is rejected, the queue settles the pile from the start,
+//! however long that takes. Nothing is proved of what `sand_guess` returns: a wrong claim costs time, and the result is
+//! the same.
 
 ghost use Rattle.std.specs.Prelude.{◌≤◌, ◌^◌, IfOk, IfSome, IsSome};
 ghost use Rattle.sand_model.specs.Grid.{IsGrid};
@@ -14,7 +15,7 @@ ghost use Rattle.sand_settle.specs.Rests.{ComesToRest};
 
 use crate::queue::topple_to_rest;
 use sand_certify::certified;
-use sand_guess::{Claim, guessed, is_flat, is_high, toppled};
+use sand_guess::{Claim, guessed, is_flat, is_high, is_small, swept, toppled};
 use sand_model::{Edge, Pile, Shape};
 use std::alloc::{AllocError, Global};
 
@@ -42,8 +43,9 @@ pub(crate) struct Rest {
     pub(crate) odometer: Vec<u64>,
 }
 
-/// Whether a bound shows that few topplings settle a pile of `grains` grains. They number at most half the weight
-/// (`sand_model::laws`), and no grain weighs more than the square of (side + 1) / 2, for a side with open ends.
+/// Whether a bound shows that few topplings settle a pile of `grains` grains, and it is not dense either. The topplings
+/// number at most half the weight (`sand_model::laws`), and no grain weighs more than the square of (side + 1) / 2, for a
+/// side with open ends.
 pub(crate) fn is_light(shape: Shape, grains: u64) -> bool
     ensures { IsGrid shape }
 {
@@ -53,7 +55,7 @@ pub(crate) fn is_light(shape: Shape, grains: u64) -> bool
     };
     let square = (side as u64 + 1) * (side as u64 + 1);
     let few = FEW_PER_SITE * shape.sites() as u64 + FEW;
-    grains.saturating_mul(square) / 8 <= few
+    grains.saturating_mul(square) / 8 <= few && !is_small(shape, grains)
 }
 
 /// Settles a pile by the queue. Returns None if `budget` sites or more have had their turn and others wait.
@@ -94,10 +96,13 @@ pub(crate) fn settle_by_claim(
     }))
 }
 
-// Settles a pile if little topples: by the queue in a few turns, or on tiles.
+// Settles a pile that is not high: by sweeps if it is small, otherwise by the queue in a few turns, or on tiles.
 fn settle_if_low(alloc: Global, pile: &Pile) -> Result<Option<Rest>, AllocError>
     ensures { IfOk result (λ o. IfSome o (ComesToRest pile.now)) }
 {
+    if is_small(pile.shape(), pile.grains()) {
+        return settle_by_claim(alloc, pile, swept(alloc, pile)?);
+    }
     let sites = pile.shape().sites() as u64;
     let is_flat = is_flat(pile);
     let budget = if is_flat && pile.grains() * 8 <= sites * 17 {
@@ -114,7 +119,7 @@ fn settle_if_low(alloc: Global, pile: &Pile) -> Result<Option<Rest>, AllocError>
     settle_by_claim(alloc, pile, toppled(alloc, pile)?)
 }
 
-// Settles a pile of which more may topple: by the queue or on tiles if little does, otherwise by a guess.
+// Settles a pile of which more may topple: by sweeps, the queue or tiles unless it is high, otherwise by a guess.
 fn settle_unless_light(alloc: Global, pile: &Pile) -> Result<Option<Rest>, AllocError>
     ensures { IfOk result (λ o. IfSome o (ComesToRest pile.now)) }
 {

@@ -1,117 +1,97 @@
 //! The pile of one thread, with lists of its heights and odometer that can be read at any time.
 //!
-//! Grains are dropped one by one, and each settles before the next. Sand topples on tiles (`sand_fronts`), and each drop
-//! writes the sites that it changes into the lists. So the cost of a drop is proportional to the number of sites that
-//! topple. A drop takes the record out and puts the new one in its place (`replace_with`); the grains of the new pile are
-//! known without a sum. The memory of the first drop serves all later ones (`room_is_kept`). The record is the same as if
-//! all grains had been on the start together (`laws::drops_add_up`). No count overflows, because of the weight: a grain
-//! weighs at most 16,512, and a toppling takes 2 (`IsPaid`).
+//! Grains are dropped one by one, and each settles before the next. They are dropped on the same pile on tiles, a
+//! `DrivenPile`. Then the heights and counts near the dropped site are read from there: its avalanche has changed no
+//! other (`near`). After a far avalanche all are read, which is faster. The memory of the first drop serves all later ones (`room_is_kept`). The record is the same as if all
+//! grains had been on the start together (`laws::drops_add_up`).
 
-ghost use Rattle.std.specs.Prelude.{◌≡◌, ℕ, ◌+◌, ◌^◌, ◌<◌, ◌≤◌, ◌↔◌, List, [], ◌∷◌, ◌++◌, length, sum, IfOk, IfErr, IfSome, IsSome, IsOk, OnOk, OnErr, IsTrue, IsOkUnless, alloc_error};
+ghost use Rattle.std.specs.Prelude.{◌≡◌, ℕ, ◌+◌, ◌^◌, ◌<◌, ◌≤◌, ◌↔◌, List, [], ◌∷◌, ◌++◌, length, sum, IfOk, IfErr, IsSome, IsOk, OnOk, OnErr, IsTrue, IsOkUnless, MatchOption, alloc_error};
 ghost use Rattle.sand_model.specs.Grid.{sites};
-ghost use Rattle.sand_model.specs.Sand.{IsStable};
 ghost use Rattle.sand_model.specs.Piles.{PileView, height_of, most_grains};
 ghost use Rattle.sand_settle.specs.Settling.{odometer_of};
 ghost use Rattle.sand_settle.specs.Avalanches.{IsAvalanche};
-ghost use Rattle.sand_settle.specs.Drops.{grid_of_one_pile, topplings_between, IsAfter, Drops, TakesGrain, IsPaid, IsOnTiles};
+ghost use Rattle.sand_settle.specs.Drops.{grid_of_driven, topplings_between, driven_view, IsAfter, Drops, IsPaid};
 
+use crate::driven_pile::DrivenPile;
 use crate::faults::OneFault;
 use crate::settled::Settled;
 use crate::settling::settle;
 use core::mem::replace_with;
-use sand_fronts::{Avalanche, TiledPile};
-use sand_model::{GRAIN_LIMIT, Pile, Shape};
+use sand_fronts::Avalanche;
+use sand_model::{GRAIN_LIMIT, Pile};
 use std::alloc::{AllocError, Global};
 use std::marker::Model;
 
 /// A pile on which one thread drops grains one by one, with all topplings since its start. It is for programs that read
-/// whole lists between drops; `DrivenPile` is faster if they read single sites, or only the end.
+/// many sites after each drop; `DrivenPile` is faster if they read few, or all sites only now and then.
 #[derive(Drop)]
 pub struct OnePile {
     settled: Settled,
-    // The same heights on tiles, where sand topples. Allocated at the first drop, in a block of their own: so they stay in
-    // place while a drop takes the record out.
-    tiled: Option<Box<TiledPile>>,
+    // The same record on tiles, where sand topples. Made at the first drop.
+    driven: Option<DrivenPile>,
     number: u64,
 }
 
 impl Model for OnePile {
-    ghost use Rattle.std.specs.Prelude.{◌<◌, IfSome, IsSome};
-    ghost use Rattle.sand_settle.specs.Drops.{OneView, one_view, IsOnePile, IsOnTiles};
+    ghost use Rattle.sand_settle.specs.Drops.{DrivenView, driven_view, IsOnePile};
 
-    ghost Value = { OneView };
+    ghost Value = { DrivenView };
 
-    ghost view = { λ p. one_view p.settled p.number };
+    ghost view = { λ p. driven_view p.settled p.number };
 
-    ghost invariant = { λ p. IsOnePile p.settled p.number
-        × IfSome p.tiled (λ b. IsOnTiles p.settled.pile b.value) × (0 < p.number → IsSome p.tiled) };
+    ghost invariant = { λ p. IsOnePile p.settled p.driven p.number };
 }
 
-// Drops a grain at a site of a settled pile and of its tiles, and adds the topplings to the record.
-fn drop_grain(
-    settled: Settled,
-    drop: (Box<TiledPile>, usize),
-) -> (Settled, (Box<TiledPile>, Avalanche))
+// Drops a grain at a site of a driven pile, and brings its settled record up to date.
+fn drop_grain(settled: Settled, drop: (DrivenPile, usize)) -> (Settled, (DrivenPile, Avalanche))
+    requires same { drop.0 ≡ driven_view settled drop.0.number }
     requires site { drop.1 < sites settled.pile.grid }
-    requires tiled { IsOnTiles settled.pile drop.0.value }
     requires paid { IsPaid settled }
-    requires limit { sum settled.pile.heights + settled.lost < most_grains }
-    ensures tiled { IsOnTiles result.0.pile result.1.0.value }
-    ensures taken { TakesGrain settled drop.1 result.0 }
+    requires room { drop.0.grains < most_grains }
+    ensures same { result.1.0 ≡ driven_view result.0 result.1.0.number }
+    ensures drops { Drops drop.0 drop.1 result.1.0 }
     ensures avalanche { IsAvalanche settled.pile.grid drop.1 (topplings_between settled result.0) result.1.1 }
 {
-    let (mut tiled, site) = drop;
+    let (mut driven, site) = drop;
     let Settled {
         pile,
         mut odometer,
-        topplings,
-        lost,
+        ..
     } = settled;
     let grains = pile.grains() + 1;
     let (shape, mut heights) = pile.into_parts();
-    let avalanche = tiled.drop_into(site, &mut heights, &mut odometer);
+    let (_, avalanche) = driven.drop_at(site).unwrap();
+    let reach = avalanche.reach as usize;
+    driven.update_heights(&mut heights, site, reach + 1);
+    driven.update_odometer(&mut odometer, site, reach);
     let record = Settled {
         pile: Pile::from_counted(shape, heights, grains - avalanche.lost),
         odometer,
-        topplings: topplings + avalanche.size,
-        lost: lost + avalanche.lost,
+        topplings: driven.topplings(),
+        lost: driven.lost(),
     };
-    (record, (tiled, avalanche))
+    (record, (driven, avalanche))
 }
 
-fn new_tiles(alloc: Global, pile: &Pile) -> Result<Box<TiledPile>, OneFault>
-    requires low { IsStable pile.now.grid (height_of pile.now) }
-    requires each { length pile.now.heights ≡ sites pile.now.grid }
-    ensures tiled { IfOk result (λ b. IsOnTiles pile.now b.value) }
-    ensures memory { IsOkUnless result (OneFault.Memory alloc_error) }
-{
-    let Ok(tiled) = TiledPile::new(alloc, pile.shape(), pile.heights()) else {
-        return Err(OneFault::Memory(AllocError));
-    };
-    match Box::new(alloc, tiled) {
-        Ok(tiled) => Ok(tiled),
-        Err(_) => Err(OneFault::Memory(AllocError)),
-    }
-}
-
-// The tiles of the last drop, or new ones.
-fn take_tiles(
+// The driven pile of the last drop, or a new one of a settled record.
+fn take_driven(
     alloc: Global,
-    pile: &Pile,
-    kept: &mut Option<Box<TiledPile>>,
-) -> Result<Box<TiledPile>, OneFault>
-    requires low { IsStable pile.now.grid (height_of pile.now) }
-    requires each { length pile.now.heights ≡ sites pile.now.grid }
-    requires tiled { IfSome kept.old (λ b. IsOnTiles pile.now b.value) }
-    ensures tiled { IfOk result (λ b. IsOnTiles pile.now b.value) }
+    settled: &Settled,
+    kept: &mut Option<DrivenPile>,
+) -> Result<DrivenPile, OneFault>
+    requires paid { IsPaid settled.now }
+    ensures driven { IfOk result (λ v. MatchOption kept.old (v ≡ driven_view settled.now 0) (λ w. v ≡ w)) }
     ensures kept { IsSome kept.old → IsOk result }
     ensures memory { IsOkUnless result (OneFault.Memory alloc_error) }
     ensures unchanged { OnErr result (kept.new ≡ kept.old) }
 {
-    match kept.take() {
-        Some(tiled) => Ok(tiled),
-        None => new_tiles(alloc, pile),
+    if let Some(driven) = kept.take() {
+        return Ok(driven);
     }
+    let Ok(copy) = settled.copy(alloc) else {
+        return Err(OneFault::Memory(AllocError));
+    };
+    DrivenPile::of_settled(alloc, copy)
 }
 
 impl OnePile {
@@ -125,7 +105,7 @@ impl OnePile {
         let _ = start.grains();
         Ok(OnePile {
             settled,
-            tiled: None,
+            driven: None,
             number: 0,
         })
     }
@@ -134,10 +114,10 @@ impl OnePile {
     /// its avalanche. Fails if the start and all drops have reached the grain limit (Full), otherwise if an allocation
     /// fails (Memory), and then changes nothing. After the first drop, no drop fails with Memory.
     pub fn drop_at(&mut self, alloc: Global, site: usize) -> Result<(u64, Avalanche), OneFault>
-        requires { site < sites (grid_of_one_pile self.old) }
+        requires { site < sites (grid_of_driven self.old) }
         ensures number { IfOk result (λ r. r.0 ≡ self.old.number) }
         ensures avalanche { IfOk result (λ r.
-            IsAvalanche (grid_of_one_pile self.old) site (topplings_between self.old.settled self.new.settled) r.1) }
+            IsAvalanche (grid_of_driven self.old) site (topplings_between self.old.settled self.new.settled) r.1) }
 
         // From the record before, and from any start and drops that lead to it.
         ensures drops { OnOk result (Drops self.old site self.new) }
@@ -153,11 +133,11 @@ impl OnePile {
         if self.is_full() {
             return Err(OneFault::Full);
         }
-        let tiled = take_tiles(alloc, self.settled.pile(), &mut self.tiled)?;
-        let (tiled, avalanche) = replace_with(&mut self.settled, (tiled, site), drop_grain);
-        self.tiled = Some(tiled);
+        let driven = take_driven(alloc, &self.settled, &mut self.driven)?;
+        let (driven, avalanche) = replace_with(&mut self.settled, (driven, site), drop_grain);
         let number = self.number;
-        self.number = number + 1;
+        self.number = driven.tally();
+        self.driven = Some(driven);
         Ok((number, avalanche))
     }
 
@@ -191,7 +171,7 @@ impl OnePile {
     }
 
     pub fn height(&self, site: usize) -> u64
-        requires { site < sites (grid_of_one_pile self.now) }
+        requires { site < sites (grid_of_driven self.now) }
         ensures { result ≡ height_of self.now.settled.pile site }
     {
         self.pile().height(site)
@@ -199,7 +179,7 @@ impl OnePile {
 
     /// How often a site has toppled since the start, including its settling.
     pub fn odometer(&self, site: usize) -> u64
-        requires { site < sites (grid_of_one_pile self.now) }
+        requires { site < sites (grid_of_driven self.now) }
         ensures { result ≡ odometer_of self.now.settled site }
     {
         self.settled().odometer(site)
@@ -208,7 +188,7 @@ impl OnePile {
     /// The same for all sites, by site.
     pub fn odometers(&self) -> &[u64]
         ensures value { result.now ≡ self.now.settled.odometer }
-        ensures len { length self.now.settled.odometer ≡ sites (grid_of_one_pile self.now) }
+        ensures len { length self.now.settled.odometer ≡ sites (grid_of_driven self.now) }
     {
         self.settled().odometers()
     }

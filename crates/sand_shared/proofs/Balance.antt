@@ -1,12 +1,5 @@
 -- All grains of a start and its drops; balance and the bound on topplings after steps that topple nothing.
-use Rattle.std.proofs.Common.{◌≡◌, ℕ, ◌+◌, ◌<◌, ◌≤◌, List, All, length, sum, arith}
-use Rattle.sand_model.specs.Grid.{Grid, sites}
-use Rattle.sand_model.specs.Sand.{grains, occurrences, IsToppled, Stabilises}
-use Rattle.sand_model.specs.Piles.{PileView, IsPile, height_of}
-use Rattle.sand_model.proofs.SumsBelow.{sum_below-add}
-use Rattle.sand_model.proofs.Occurrences.{sum_below-occurrences}
-use Rattle.sand_model.proofs.Heights.{sum_is_grains}
-use Rattle.sand_model.proofs.Flow.{flow_same}
+use Rattle.sand_shared.proofs.Common.{◌≡◌, ℕ, ◌+◌, ◌<◌, ◌≤◌, List, All, length, sum, arith, Grid, sites, grains, occurrences, IsToppled, Stabilises, PileView, IsPile, height_of, sum_below-add, sum_below-occurrences, sum_is_grains, flow_same}
 
 pub grains_in_all : (start : PileView) (drops : List ℕ) → IsPile start → All (λ i. i < sites start.grid) drops
     → grains start.grid (λ i. height_of start i + occurrences drops i) ≡ sum start.heights + length drops

@@ -1,21 +1,6 @@
 -- Several events in one step, draws or places on one site: when they can happen, where they lead, what they tell.
-use Rattle.std.proofs.Common.{◌≡◌, ℕ, zero, suc, ◌+◌, ◌-◌, ◌*◌, ◌/◌, ◌%◌, ◌^◌, ◌<◌, ◌≤◌, List, [], ◌∷◌, ◌++◌, length, sym, refl, ap, ◌∙◌, subst, arith, length-append}
-use Rattle.std.specs.Prelude.{slice_index, All, count_by}
-use Rattle.std.proofs.lemmas.List.{append_assoc, append-nil, set-set, length-map, length-replicate, get_or-set_same}
-use Rattle.atomic_table.specs.Table.{State, Me, Allows}
-use Rattle.sand_model.specs.Grid.{sites}
-use Rattle.sand_shared.specs.declared.view.View.{View}
-use Rattle.sand_shared.specs.declared.view.Receipt.{Receipt}
-use Rattle.sand_shared.specs.declared.view.Terms.{Terms}
-use Rattle.sand_shared.specs.OpenPile.{OpenPile, nobody, grid_of_terms, pass_at, AreTerms, IsLawful}
-use Rattle.sand_shared.specs.Events.{Event, draw, place, receipt, grains_for, are_for, drew, drew_all, after_laying, receipts_from, one_for_each, all_draws, all_places, May, after, AllHappen, after_all}
-use Rattle.sand_shared.specs.Plays.{Takes}
-use Rattle.sand_shared.specs.Running.{Shows, IsRunning, Stands, found, Finds, Happened}
-use Rattle.sand_shared.specs.Passes.{EachOnce, AllBelow}
+use Rattle.sand_shared.proofs.Common.{◌≡◌, ℕ, zero, suc, ◌+◌, ◌-◌, ◌*◌, ◌/◌, ◌%◌, ◌^◌, ◌<◌, ◌≤◌, List, [], ◌∷◌, ◌++◌, length, sym, refl, ap, ◌∙◌, subst, arith, length-append, slice_index, All, count_by, append_assoc, append-nil, set-set, length-map, length-replicate, get_or-set_same, State, Me, Allows, sites, View, Receipt, Terms, OpenPile, nobody, grid_of_terms, pass_at, AreTerms, IsLawful, Event, draw, place, receipt, grains_for, are_for, drew, drew_all, after_laying, receipts_from, one_for_each, all_draws, all_places, May, after, AllHappen, after_all, Takes, Shows, IsRunning, Stands, found, Finds, Happened, EachOnce, AllBelow, mod-add-div', add-mul-mod_self_right, lt-length-set, All-map, All-replicate, All-tail}
 use Rattle.sand_shared.proofs.ReceiptsTellHistory.{once_more, below_push}
-use Rattle.std.proofs.Math.Nat.{mod-add-div', add-mul-mod_self_right}
-use Rattle.std.proofs.Math.Seq.{lt-length-set}
-use Rattle.std.proofs.lemmas.List.Elements.{All-map, All-replicate, All-tail}
 use Rattle.sand_shared.proofs.HandAfterPlacing.{laid_on, count-without}
 use Rattle.sand_shared.proofs.Lawfulness.{event_keeps, all_keep, few_drawn}
 use Rattle.sand_shared.proofs.WordsShowPile.{stepped_to, pass_at-with, shows_draw, shows_arrived}

@@ -1,23 +1,8 @@
 -- Grains at one site, what a toppling sends to the neighbours, what follows from each site having one holder, and the
 -- counts of a pass as a list and by site.
-use Rattle.std.proofs.Common.{Bool, ◌≡◌, ℕ, ◌+◌, ◌-◌, ◌*◌, ◌<◌, ◌≤◌, ◌≢◌, List, ◌∷◌, ◌++◌, length, ltb, leb, true, false, refl, sym, ap, ◌∙◌, arith, zero, suc, take, sum}
-use Rattle.std.specs.Prelude.{slice_index, ◌&&◌}
-use Rattle.std.proofs.lemmas.Bool.{eq-eqb, ne_eqb}
-use Rattle.std.proofs.lemmas.Bool.Decides.{nat_tests}
-use Rattle.std.proofs.lemmas.List.{length-set, take_all}
-use Rattle.std.proofs.lemmas.List.Sums.{sum_by-cons, sum_by-append, sum_by_more}
-use Rattle.sand_model.specs.Grid.{Grid, sites, neighbours}
-use Rattle.sand_model.specs.Sand.{flow, one_at, sum_below}
-use Rattle.sand_model.proofs.Flow.{flow_same, flow-scale, flow-one_at}
-use Rattle.sand_model.proofs.Heights.{counted}
-use Rattle.sand_shared.specs.declared.view.Grains.{Grains}
-use Rattle.sand_shared.specs.declared.view.View.{View}
-use Rattle.sand_shared.specs.declared.view.Terms.{Terms}
-use Rattle.sand_shared.specs.OpenPile.{grid_of_terms, amount_at, held, holds_site, toppled_by, OpenPile, nobody, toppled, pass_at, IsLawful}
-use Rattle.sand_shared.specs.Events.{grains_for, sent, raised, unloaded}
+use Rattle.sand_shared.proofs.Common.{Bool, ◌≡◌, ℕ, ◌+◌, ◌-◌, ◌*◌, ◌<◌, ◌≤◌, ◌≢◌, List, ◌∷◌, ◌++◌, length, ltb, leb, true, false, refl, sym, ap, ◌∙◌, arith, zero, suc, take, sum, slice_index, ◌&&◌, eq-eqb, ne_eqb, nat_tests, length-set, take_all, sum_by-cons, sum_by-append, sum_by_more, Grid, sites, neighbours, one_at, flow_same, flow-scale, flow-one_at, counted, Grains, View, Terms, grid_of_terms, amount_at, held, holds_site, toppled_by, OpenPile, nobody, toppled, pass_at, IsLawful, grains_for, sent, raised, unloaded, one_if, get_or-eq_default}
+use Rattle.sand_model.specs.Sand.{flow, sum_below}
 use Rattle.sand_shared.proofs.SumsOverPasses.{sum_by-map, sum_by_two, sum_by_only}
-use Rattle.sand_model.specs.Lists.{one_if}
-use Rattle.std.proofs.Math.ListN.{get_or-eq_default}
 
 pub amount_here : (i k j : ℕ) → i ≡ j → amount_at i k j ≡ k
 amount_here i k j e = rw (eq-eqb i j e)

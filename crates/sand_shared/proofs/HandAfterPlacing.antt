@@ -1,19 +1,6 @@
 -- A hand after grains are laid, in any order. The grains of a list are counted by site and laid by site.
-use Rattle.std.proofs.Common.{◌≡◌, ℕ, zero, suc, ◌+◌, ◌<◌, ◌≤◌, List, [], ◌∷◌, All, true, false, ap, ◌∙◌, ⊎_elim, arith, ◌≢◌, eqb, take, length, set, get_or, sym, refl}
-use Rattle.std.specs.Prelude.{count_by, slice_index}
-use Rattle.std.proofs.lemmas.Bool.{cases_Bool}
-use Rattle.std.proofs.lemmas.Bool.Decides.{nat_tests}
-use Rattle.std.proofs.lemmas.List.Elements.{All-cons, All-nil}
-use Rattle.std.proofs.lemmas.List.Sums.{sum_by-cons, sum_by_more, count_by-le-length}
-use Rattle.sand_model.specs.Lists.{one_if}
-use Rattle.sand_shared.specs.declared.view.Grains.{Grains}
-use Rattle.sand_shared.specs.OpenPile.{amount_at, held}
-use Rattle.sand_shared.specs.Events.{grains_for, behind_first, are_for, without, zeros, one_for_each}
+use Rattle.sand_shared.proofs.Common.{◌≡◌, ℕ, zero, suc, ◌+◌, ◌<◌, ◌≤◌, List, [], ◌∷◌, All, true, false, ap, ◌∙◌, ⊎_elim, arith, ◌≢◌, eqb, take, length, set, get_or, sym, refl, count_by, slice_index, cases_Bool, nat_tests, All-cons, All-nil, sum_by-cons, sum_by_more, count_by-le-length, one_if, Grains, amount_at, held, grains_for, behind_first, are_for, without, zeros, one_for_each, ext_get_or, get_or-replicate, get_or_read, get_or-set_same, length-replicate, length-set, length-take, occurrences, one_at, counted, get_or-written, occurrences-cons}
 use Rattle.sand_shared.proofs.GrainsAtSite.{held-cons, amount_here, amount_is}
-use Rattle.std.proofs.lemmas.List.{ext_get_or, get_or-replicate, get_or_read, get_or-set_same, length-replicate, length-set, length-take}
-use Rattle.sand_model.specs.Sand.{occurrences, one_at}
-use Rattle.sand_model.proofs.Heights.{counted, get_or-written}
-use Rattle.sand_model.proofs.Occurrences.{occurrences-cons}
 use Rattle.sand_shared.proofs.SumsOverPasses.{sum_by-map}
 use Rattle.sand_shared.proofs.ReceiptsTellHistory.{one_if_other}
 

@@ -1,11 +1,9 @@
 -- The passes of a list are joined to one, in order: taken from the end of the reversed list.
-use Rattle.std.proofs.Common.{◌≡◌, ◌↔◌, List, [], ◌∷◌, ◌++◌, reverse, refl, sym, ap, ◌∙◌, append_assoc}
-use Rattle.std.proofs.lemmas.List.{append-nil, reverse-append, reverse-reverse}
+use Rattle.sand_shared.proofs.Common.{◌≡◌, ◌↔◌, List, [], ◌∷◌, ◌++◌, reverse, refl, sym, ap, ◌∙◌, append-nil, reverse-append, reverse-reverse, PassView, together, together_all, AreApart}
+use Rattle.std.proofs.Common.{append_assoc}
 use Rattle.sand_shared.specs.declared.faults.JoinFault.{JoinFault}
 use Rattle.sand_shared.specs.declared.faults.JoinFault.TheVariants.{Apart}
 use Rattle.sand_shared.specs.Joins.{StopsAt}
-use Rattle.sand_shared.specs.Passes.{PassView, together, together_all}
-use Rattle.sand_shared.specs.Rows.{AreApart}
 
 together_all-push : (p : PassView) (qs : List PassView) (x : PassView)
     → together_all p (qs ++ x ∷ []) ≡ together (together_all p qs) x
@@ -23,6 +21,7 @@ module _ (p : PassView) (passes : List PassView) where
   none_joined = record { joined = []; all = sym (reverse-reverse passes); together = refl }
 
   module _ (q x : PassView) (left : List PassView) (so_far : IsJoining p passes q (left ++ x ∷ [])) where
+    -- the last of the passes that are left comes next
     next_first : passes ≡ so_far.joined ++ x ∷ reverse left
     next_first = so_far.all ∙ ap (λ l. so_far.joined ++ l) (reverse-append left (x ∷ []))
 

@@ -1,35 +1,14 @@
 -- A pass that has gathered everything: its history and its record. If it has swept until nothing toppled, the heights
 -- of the last open pile are the settled pile of the start and all drops, and its counts are the least odometer. If one
 -- thread settles the rest, the counts plus the odometer of the rest are that odometer.
-use Rattle.std.proofs.Common.{◌≡◌, ℕ, ◌+◌, ◌-◌, ◌<◌, ◌≤◌, List, All, length, sum, sym, refl, ap, ◌∙◌, subst, arith}
-use Rattle.std.specs.Prelude.{slice_index}
-use Rattle.atomic_table.specs.Table.{Me}
-use Rattle.sand_model.specs.Grid.{sites, Grid}
-use Rattle.sand_model.specs.Sand.{IsToppled, occurrences, IsSettled, IsUnderway, grains, topplings as topplings_of, lost as lost_of}
-use Rattle.sand_model.specs.Piles.{height_of, most_grains, PileView}
-use Rattle.sand_model.proofs.Sandpile.{settled_same, laplacian_sum, settles_after}
+use Rattle.sand_shared.proofs.Common.{◌≡◌, ℕ, ◌+◌, ◌-◌, ◌<◌, ◌≤◌, List, All, length, sum, sym, refl, ap, ◌∙◌, subst, arith, slice_index, Me, sites, Grid, IsToppled, occurrences, IsSettled, IsUnderway, grains, height_of, most_grains, PileView, settled_same, laplacian_sum, settles_after, odometer_of, SettledView, IsSettledRecord, Inside, View, Receipt, Terms, nobody, grid_of_terms, receipts_for, toppled_by, start_and_drawn, shown, IsBare, PassView, SharedView, AllBelow, IsPass, IsPassOf, IsWhole, at_rest, looked, RecordView, Tells, IsLast, IsOneThreads, IsRecordOf, IsCompleted, Stands, HasAll, IsCalm, start_and_receipts, with_counts, IsRestOf, sum_below_same, sum_is_grains, topplings_bound, at_most_sum_below}
+use Rattle.sand_model.specs.Sand.{topplings as topplings_of, lost as lost_of}
 use Rattle.sand_model.proofs.Underway.{underway_end}
-use Rattle.sand_settle.specs.Settling.{odometer_of, SettledView, IsSettledRecord}
-use Rattle.sand_shared.specs.declared.bare_pass.BarePass.TheInside.{Inside}
-use Rattle.sand_shared.specs.declared.view.View.{View}
-use Rattle.sand_shared.specs.declared.view.Receipt.{Receipt}
-use Rattle.sand_shared.specs.declared.view.Terms.{Terms}
-use Rattle.sand_shared.specs.OpenPile.{nobody, grid_of_terms, receipts_for, toppled_by, start_and_drawn}
-use Rattle.sand_shared.specs.Bare.{shown, IsBare}
-use Rattle.sand_shared.specs.Passes.{PassView, SharedView, AllBelow, IsPass, IsPassOf, IsWhole, at_rest}
-use Rattle.sand_shared.specs.Events.{looked}
-use Rattle.sand_shared.specs.Record.{RecordView, Tells, IsLast, IsOneThreads, IsRecordOf, IsCompleted}
-use Rattle.sand_shared.specs.Running.{Stands}
-use Rattle.sand_shared.specs.Seats.{HasAll}
-use Rattle.sand_shared.specs.Sweeps.{IsCalm, start_and_receipts, with_counts, IsRestOf}
 use Rattle.sand_shared.proofs.GrainsAtSite.{toppled_from}
 use Rattle.sand_shared.proofs.PassKnowsPile.{knows_all, left_exactly, stands_sparing}
 use Rattle.sand_shared.proofs.ReceiptsTellHistory.{history_is, all_seen}
 use Rattle.sand_shared.proofs.RecordSums.{LeadsTo}
 use Rattle.sand_shared.proofs.WholeHasAll.{whole_base, whole_counts, swept_has_all}
-use Rattle.sand_model.proofs.SumsBelow.{sum_below_same}
-use Rattle.sand_model.proofs.Heights.{sum_is_grains}
-use Rattle.sand_model.proofs.Bounds.{topplings_bound, at_most_sum_below}
 use Rattle.sand_shared.proofs.Lawfulness.{few_grains}
 
 -- a history is that of some receipts on a pile with these terms
@@ -39,6 +18,7 @@ pub record HasHistory (t : Terms) (receipts : List Receipt) (history : List ℕ)
   pub by_site : (i : ℕ) → occurrences history i ≡ receipts_for receipts i
 
 module _ {t : Terms} {a : ℕ} {v : View} (s : Stands t a v) (all : HasAll t v) where
+  -- all numbers are in its receipts, so a history that these tell is the pile's
   has_history : (history : List ℕ) → length history ≡ length v.receipts → Tells v.receipts history
       → HasHistory t v.receipts history
   has_history history long told =
@@ -48,6 +28,7 @@ module _ {t : Terms} {a : ℕ} {v : View} (s : Stands t a v) (all : HasAll t v) 
       subst (HasHistory t v.receipts) (sym is)
       record { all_sites = s.lawful.all_sites; limit = omega arith; by_site = k.drops }
 
+  -- all numbers are in its receipts and below what it has seen, so it has seen all drops
   seen_is : AllBelow v.seen v.receipts → v.seen ≡ length v.receipts
   seen_is below =
       let k = knows_all s all in

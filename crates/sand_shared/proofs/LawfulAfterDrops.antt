@@ -1,23 +1,9 @@
 -- The pile stays lawful when a pass reads the number of drops or the height of a site, draws a number for a grain, or
 -- lays grains in hand on their site.
-use Rattle.std.proofs.Common.{◌≡◌, ℕ, ◌+◌, ◌<◌, ◌≤◌, List, true, length, refl, ◌∙◌, arith, [], ◌∷◌, ◌++◌, Some, eqb, length-append}
-use Rattle.std.proofs.lemmas.List.Elements.{All-set, All-weaker, All-push}
-use Rattle.std.proofs.lemmas.List.Sums.{sum_by-set, sum_by_push}
-use Rattle.sand_model.specs.Grid.{sites}
-use Rattle.sand_model.specs.Lists.{one_if}
-use Rattle.sand_shared.specs.declared.view.View.{View}
-use Rattle.sand_shared.specs.declared.view.Grains.{Grains}
-use Rattle.sand_shared.specs.declared.view.Terms.{Terms}
-use Rattle.sand_shared.specs.OpenPile.{OpenPile, nobody, grid_of_terms, numbered, receipts_for, held, holds_site, toppled_by, pass_at, IsLawfulPass, IsLawful, amount_at}
-use Rattle.sand_shared.specs.Events.{count, look, with_pass, May, after, draw, drew, receipt, grains_for, are_for, without, arrived}
+use Rattle.sand_shared.proofs.Common.{◌≡◌, ℕ, ◌+◌, ◌<◌, ◌≤◌, List, true, length, refl, ◌∙◌, arith, [], ◌∷◌, ◌++◌, Some, eqb, length-append, All-set, All-weaker, All-push, sum_by-set, sum_by_push, sites, one_if, View, Grains, Terms, OpenPile, nobody, grid_of_terms, numbered, receipts_for, held, holds_site, toppled_by, pass_at, IsLawfulPass, IsLawful, amount_at, count, look, with_pass, May, after, draw, drew, receipt, grains_for, are_for, without, arrived, slice_get, count_by, common_steps, nat_tests, occurrences-push, Receipt}
 use Rattle.sand_shared.proofs.SumsOverPasses.{sum_by_kept}
 use Rattle.sand_shared.proofs.Balance.{balance_kept, stabilises_fewer}
-use Rattle.std.specs.Prelude.{slice_get, count_by}
-use Rattle.std.proofs.lemmas.Grind.{common_steps}
 use Rattle.std.proofs.lemmas.Option.{gets}
-use Rattle.std.proofs.lemmas.Bool.Decides.{nat_tests}
-use Rattle.sand_model.proofs.Occurrences.{occurrences-push}
-use Rattle.sand_shared.specs.declared.view.Receipt.{Receipt}
 use Rattle.sand_shared.proofs.GrainsAtSite.{held-append}
 use Rattle.sand_shared.proofs.HandAfterPlacing.{held-without}
 
@@ -49,6 +35,7 @@ still_lawful t p a seen spot least hand height r there same mine others =
           (All-weaker (IsLawfulPass t p) (IsLawfulPass t q) others p.passes r.passes);
     }
 
+-- the pile stays lawful when a pass comes to know more
 learns : (t : Terms) (p : OpenPile) (a seen spot least : ℕ) → IsLawful t p → a < length p.passes → seen ≤ length p.drawn
     → (holds_site (pass_at p a) spot ≡ true → spot < sites (grid_of_terms t) → least ≤ p.height spot)
     → IsLawful t (with_pass p a (record (pass_at p a) { seen = seen; spot = spot; least = least }))
@@ -83,6 +70,7 @@ get_last : (xs : List ℕ) (y : ℕ) → slice_get (xs ++ y ∷ []) (length xs) 
 get_last xs y = grind (arith, common_steps, gets)
 
 module _ (t : Terms) (p : OpenPile) (a i : ℕ) (r : IsLawful t p) (may : May t p (draw a i)) where
+  -- the pass that drew has the new receipt and its grain; every other pass has what it had
   drawn_pass : IsLawfulPass t (after t p (draw a i)) (drew (pass_at p a) (length p.drawn) i)
   drawn_pass =
       let v = pass_at p a in

@@ -1,16 +1,5 @@
 -- The pile stays lawful when passes are split and joined: together they still have the same.
-use Rattle.std.proofs.Common.{◌≡◌, ℕ, ◌+◌, ◌≤◌, List, [], ◌∷◌, ◌++◌, Some, eqb, All, sum_by, length, set, get_or, sym, refl, ap, ◌∙◌, subst, arith, length-append}
-use Rattle.std.specs.Prelude.{slice_get}
-use Rattle.std.proofs.lemmas.Bool.Decides.{nat_tests}
-use Rattle.std.proofs.lemmas.List.{get_or-set_other, length-set}
-use Rattle.std.proofs.lemmas.List.Sums.{sum_by-set, sum_by-append, sum_by_push}
-use Rattle.std.proofs.lemmas.List.Elements.{All-append, All-set, All-cons, All-nil}
-use Rattle.sand_model.specs.Lists.{one_if}
-use Rattle.sand_shared.specs.declared.view.View.{View}
-use Rattle.sand_shared.specs.declared.view.Receipt.{Receipt}
-use Rattle.sand_shared.specs.declared.view.Terms.{Terms}
-use Rattle.sand_shared.specs.OpenPile.{OpenPile, nobody, numbered, receipts_for, held, holds_site, toppled_by, toppled, pass_at, IsLawfulPass, IsLawful}
-use Rattle.sand_shared.specs.Events.{split, join, parent, child, joined, May, after}
+use Rattle.sand_shared.proofs.Common.{◌≡◌, ℕ, ◌+◌, ◌≤◌, List, [], ◌∷◌, ◌++◌, Some, eqb, All, sum_by, length, set, get_or, sym, refl, ap, ◌∙◌, subst, arith, length-append, slice_get, nat_tests, get_or-set_other, length-set, sum_by-set, sum_by-append, sum_by_push, All-append, All-set, All-cons, All-nil, one_if, View, Receipt, Terms, OpenPile, nobody, numbered, receipts_for, held, holds_site, toppled_by, toppled, pass_at, IsLawfulPass, IsLawful, split, join, parent, child, joined, May, after}
 use Rattle.sand_shared.proofs.Balance.{balance_kept}
 use Rattle.sand_shared.proofs.RowPartsAddUp.{none_toppled, cut_parts, parts_hold, parts_toppled, joined_rows}
 
@@ -66,6 +55,7 @@ bare_pass t p u seen none free unknown =
     }
 
 module _ (t : Terms) (p : OpenPile) (a q n : ℕ) (r : IsLawful t p) (may : May t p (split a q n)) where
+  -- parent and child together have what the pass had
   split_shares : SharesOut (pass_at p a) nobody (parent (pass_at p a) q n) (child (pass_at p a) q n)
   split_shares =
       let v = pass_at p a in
@@ -103,6 +93,7 @@ module _ (t : Terms) (p : OpenPile) (a q n : ℕ) (r : IsLawful t p) (may : May 
       (All-cons P y [] (bare_pass t (record p { passes = views }) y f.seen refl refl refl) (All-nil P)))
 
 module _ (t : Terms) (p : OpenPile) (a b : ℕ) (r : IsLawful t p) (may : May t p (join a b)) where
+  -- the joined pass has what both had
   join_shares : SharesOut (pass_at p a) (pass_at p b) (joined (pass_at p a) (pass_at p b)) nobody
   join_shares =
       let v = pass_at p a in

@@ -1,17 +1,6 @@
 -- The pile stays lawful when a pass takes grains from a site of its rows, to send them to the neighbours.
 -- No site topples more often than needed (least action): the grains are on it, so w topples it too.
-use Rattle.std.proofs.Common.{◌≡◌, ℕ, ◌+◌, ◌-◌, ◌*◌, ◌<◌, ◌≤◌, ◌≢◌, true, false, true≢false, length, sym, refl, ap, ◌∙◌, arith}
-use Rattle.std.proofs.lemmas.Bool.Decides.{nat_tests}
-use Rattle.std.proofs.lemmas.List.Sums.{sum_by-set}
-use Rattle.sand_model.specs.Grid.{sites}
-use Rattle.sand_model.specs.Sand.{flow, IsToppled, Stabilises}
-use Rattle.sand_model.specs.Lists.{one_if}
-use Rattle.sand_model.proofs.Flow.{flow_same, flow-add}
-use Rattle.sand_model.proofs.Sandpile.{least_action}
-use Rattle.sand_shared.specs.declared.view.View.{View}
-use Rattle.sand_shared.specs.declared.view.Terms.{Terms}
-use Rattle.sand_shared.specs.OpenPile.{OpenPile, nobody, grid_of_terms, amount_at, numbered, receipts_for, held, holds_site, toppled_by, toppled, start_and_drawn, present, pass_at, IsLawfulPass, IsLawful}
-use Rattle.sand_shared.specs.Events.{unload, unloaded, sent, May, after}
+use Rattle.sand_shared.proofs.Common.{◌≡◌, ℕ, ◌+◌, ◌-◌, ◌*◌, ◌<◌, ◌≤◌, ◌≢◌, true, false, true≢false, length, sym, refl, ap, ◌∙◌, arith, nat_tests, sum_by-set, sites, flow, IsToppled, Stabilises, one_if, flow_same, flow-add, least_action, View, Terms, OpenPile, nobody, grid_of_terms, amount_at, numbered, receipts_for, held, holds_site, toppled_by, toppled, start_and_drawn, present, pass_at, IsLawfulPass, IsLawful, unload, unloaded, sent, May, after}
 use Rattle.sand_shared.proofs.SumsOverPasses.{sum_by_kept, all_put}
 use Rattle.sand_shared.proofs.GrainsAtSite.{amount_else, flow-amount, held-append, held-sent, toppled-unloaded, holds-unloaded, others_without}
 
@@ -33,6 +22,7 @@ module _ (t : Terms) (p : OpenPile) (a i k : ℕ) (r : IsLawful t p) (may : May 
   more_held j l = held-append (pass_at p a).hand (sent t i k) j ∙ ap (λ n. held (pass_at p a).hand j + n)
       (held-sent t i k j ∙ sym (flow-amount (grid_of_terms t) i k j may.inside l))
 
+  -- what the site loses is in hand for its neighbours, so no grain vanishes
   unload_balance : IsToppled (grid_of_terms t) (start_and_drawn t (after t p (unload a i k)))
       (toppled (after t p (unload a i k))) (present (after t p (unload a i k)))
   unload_balance = record {
@@ -48,6 +38,7 @@ module _ (t : Terms) (p : OpenPile) (a i k : ℕ) (r : IsLawful t p) (may : May 
         let f = flow-add g (toppled p) (amount_at i k) j in omega arith;
   }
 
+  -- the grains are on the site, so w topples it as often, too
   unload_needed : (w : ℕ → ℕ) → Stabilises (grid_of_terms t) (start_and_drawn t p) w
       → (j : ℕ) → j < sites (grid_of_terms t)
       → toppled (after t p (unload a i k)) j ≤ w j

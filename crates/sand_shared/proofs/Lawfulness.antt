@@ -1,22 +1,6 @@
 -- The initial pile is lawful, and each event keeps it lawful, so any list of events does.
-use Rattle.std.proofs.Common.{◌≡◌, ℕ, zero, suc, ◌-◌, ◌*◌, ◌<◌, ◌≤◌, [], Some, length, get_or, refl, arith, ◌+◌, List, ◌∷◌, ◌++◌, sum, sum_by, ap}
-use Rattle.std.specs.Prelude.{slice_get}
-use Rattle.std.proofs.lemmas.Bool.Decides.{nat_tests}
-use Rattle.std.proofs.lemmas.List.{length-replicate}
-use Rattle.std.proofs.lemmas.List.Elements.{All-cons, All-nil}
-use Rattle.std.proofs.Math.Nat.{mul-le-mul_right}
-use Rattle.sand_model.specs.Grid.{Grid, IsGrid, sites}
-use Rattle.sand_model.specs.Lists.{one_if}
-use Rattle.sand_model.proofs.Flow.{flow_none}
-use Rattle.sand_shared.specs.declared.view.Receipt.{Receipt}
-use Rattle.sand_shared.specs.declared.view.Terms.{Terms}
-use Rattle.sand_shared.specs.OpenPile.{grid_of_terms, holds_site, toppled, IsLawfulPass, IsLawful, OpenPile, present, start_and_drawn, AreTerms}
-use Rattle.sand_shared.specs.Events.{begin, unopened, zeros, first_pass, after, Event, draw, place, count, split, join, look, unload, deliver, May, AllHappen, after_all}
+use Rattle.sand_shared.proofs.Common.{◌≡◌, ℕ, zero, suc, ◌-◌, ◌*◌, ◌<◌, ◌≤◌, [], Some, length, get_or, refl, arith, ◌+◌, List, ◌∷◌, ◌++◌, sum, sum_by, ap, slice_get, nat_tests, length-replicate, All-cons, All-nil, mul-le-mul_right, Grid, IsGrid, sites, one_if, flow_none, Receipt, Terms, grid_of_terms, holds_site, toppled, IsLawfulPass, IsLawful, OpenPile, present, start_and_drawn, AreTerms, begin, unopened, zeros, first_pass, after, Event, draw, place, count, split, join, look, unload, deliver, May, AllHappen, after_all, grains, at_most_sum_below, laplacian_sum, View}
 use Rattle.sand_shared.proofs.GrainsAtSite.{toppled_from}
-use Rattle.sand_model.specs.Sand.{grains}
-use Rattle.sand_model.proofs.Bounds.{at_most_sum_below}
-use Rattle.sand_model.proofs.Sandpile.{laplacian_sum}
-use Rattle.sand_shared.specs.declared.view.View.{View}
 use Rattle.sand_shared.proofs.Balance.{grains_in_all}
 use Rattle.sand_shared.proofs.LawfulAfterDrops.{count_keeps, look_keeps, draw_keeps, arrived_keeps}
 use Rattle.sand_shared.proofs.LawfulAfterTopplings.{unload_keeps}

@@ -25,3 +25,4 @@ pub mod WholeHasAll
 pub mod RecordSums
 pub mod ReceiptsTellHistory
 pub mod LastPileIsSettled
+pub mod Common

@@ -1,30 +1,12 @@
 -- What a pass knows of the pile whatever other threads do: how much is left on a site of its rows, and that it has
 -- toppled no more than needed.
-use Rattle.std.proofs.Common.{◌≡◌, ℕ, ◌+◌, ◌*◌, ◌^◌, ◌<◌, ◌≤◌, ◌≢◌, List, [], ◌∷◌, true, length, sum, sum_by, sym, refl, ap, ◌∙◌, subst, ⊎_elim, arith}
-use Rattle.std.proofs.lemmas.Bool.{cases_eq}
-use Rattle.std.proofs.lemmas.List.Sums.{get_or-le-sum_by}
-use Rattle.sand_model.specs.Grid.{sites, neighbours}
-use Rattle.sand_model.specs.Sand.{occurrences, flow, grain_weight, IsToppled}
-use Rattle.sand_model.specs.Piles.{height_of}
-use Rattle.sand_model.proofs.SumsBelow.{sum_below_same, sum_below_le}
-use Rattle.sand_model.proofs.Flow.{flow_same, flow_none}
-use Rattle.sand_model.proofs.Sandpile.{weight_after}
-use Rattle.sand_model.proofs.Bounds.{topplings_bound}
-use Rattle.sand_shared.specs.declared.view.View.{View}
-use Rattle.sand_shared.specs.declared.view.Receipt.{Receipt}
-use Rattle.sand_shared.specs.declared.view.Terms.{Terms}
-use Rattle.sand_shared.specs.OpenPile.{OpenPile, nobody, grid_of_terms, numbered, receipts_for, held, holds_site, toppled_by, toppled, start_and_drawn, present, in_all, pass_at, AreTerms, IsLawful}
-use Rattle.sand_shared.specs.Events.{look, unload, after}
-use Rattle.sand_shared.specs.Running.{Stands, Happened}
-use Rattle.sand_shared.specs.Seats.{HasAll}
-use Rattle.sand_shared.specs.Sweeps.{start_and_receipts, LeavesAtMost, IsSparing}
+use Rattle.sand_shared.proofs.Common.{◌≡◌, ℕ, ◌+◌, ◌*◌, ◌^◌, ◌<◌, ◌≤◌, ◌≢◌, List, [], ◌∷◌, true, length, sum, sum_by, sym, refl, ap, ◌∙◌, subst, ⊎_elim, arith, cases_eq, get_or-le-sum_by, sites, neighbours, occurrences, grain_weight, IsToppled, height_of, sum_below_same, sum_below_le, flow_same, flow_none, weight_after, topplings_bound, View, Receipt, Terms, OpenPile, nobody, grid_of_terms, numbered, receipts_for, held, holds_site, toppled_by, toppled, start_and_drawn, present, in_all, pass_at, AreTerms, IsLawful, look, unload, after, Stands, Happened, HasAll, start_and_receipts, LeavesAtMost, IsSparing, nil_from_length, lt-length-set}
+use Rattle.sand_model.specs.Sand.{flow}
 use Rattle.sand_shared.proofs.SumsOverPasses.{sum_by_two, sum_by_only, sum_by_none, sum_by_plus, sum_by_beside, sum_by_swap}
 use Rattle.sand_shared.proofs.Balance.{stabilises_fewer}
 use Rattle.sand_shared.proofs.GrainsAtSite.{toppled_outside, others_without, own_toppled, sum_counts}
 use Rattle.sand_shared.proofs.Lawfulness.{event_keeps, few_grains}
 use Rattle.sand_shared.proofs.ReceiptsTellHistory.{one_below}
-use Rattle.std.proofs.lemmas.List.{nil_from_length}
-use Rattle.std.proofs.Math.Seq.{lt-length-set}
 
 all_flow : (t : Terms) (p : OpenPile) (i : ℕ)
     → sum_by (λ (v : View). flow (grid_of_terms t) (toppled_by v) i) p.passes ≡ flow (grid_of_terms t) (toppled p) i
@@ -68,6 +50,7 @@ module _ (t : Terms) (p : OpenPile) (r : IsLawful t p) (a : ℕ) (there : a < le
       let counts = sum_counts v (sites g) fits in omega arith
 
   module _ (all : HasAll t (pass_at p a)) where
+    -- a pass that has everything leaves no receipts for the others
     no_receipts : (b : ℕ) → b < length p.passes → b ≢ a → (pass_at p b).receipts ≡ []
     no_receipts b lb ne =
         let two = sum_by_two (λ (u : View). u.left + length u.receipts) p.passes a b nobody there lb ne in

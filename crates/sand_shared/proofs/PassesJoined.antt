@@ -1,19 +1,6 @@
 -- Two passes whose rows touch, and the joined pass; the seats of two such passes are joined to its seat.
-use Rattle.std.proofs.Common.{◌≡◌, ℕ, ◌+◌, ◌-◌, ◌*◌, ◌⊎◌, ◌++◌, Bool, true, false, eqb, length, sym, refl, ap, ◌∙◌, subst, arith, length-append}
-use Rattle.std.specs.Prelude.{◌||◌, if◌then◌else◌}
-use Rattle.std.proofs.Math.Nat.{eq_of_mul-eq-mul_right}
-use Rattle.std.proofs.lemmas.Bool.Decides.{nat_tests}
-use Rattle.sand_model.specs.Grid.{Grid}
-use Rattle.sand_shared.specs.declared.rows.Rows.{Rows}
-use Rattle.sand_shared.specs.declared.view.View.{View}
-use Rattle.sand_shared.specs.Events.{follows, joined}
-use Rattle.sand_shared.specs.Passes.{PassView, at_rest, together, IsPass, EachOnce}
-use Rattle.sand_shared.specs.Rows.{count_of, rows_follow, rows_together, AreRowsOf}
+use Rattle.sand_shared.proofs.Common.{◌≡◌, ℕ, ◌+◌, ◌-◌, ◌*◌, ◌⊎◌, ◌++◌, Bool, true, false, eqb, length, sym, refl, ap, ◌∙◌, subst, arith, length-append, ◌||◌, if◌then◌else◌, eq_of_mul-eq-mul_right, nat_tests, Grid, Rows, View, follows, joined, PassView, at_rest, together, IsPass, EachOnce, count_of, rows_follow, rows_together, AreRowsOf, Inside, Terms, shown, IsBare, Stands}
 use Rattle.sand_shared.proofs.RowSites.{times_plus, rows_end}
-use Rattle.sand_shared.specs.declared.bare_pass.BarePass.TheInside.{Inside}
-use Rattle.sand_shared.specs.declared.view.Terms.{Terms}
-use Rattle.sand_shared.specs.Bare.{shown, IsBare}
-use Rattle.sand_shared.specs.Running.{Stands}
 use Rattle.sand_shared.proofs.ReceiptsTellHistory.{below_join, stands_once}
 
 -- the rows of both, in either order

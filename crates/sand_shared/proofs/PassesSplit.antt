@@ -1,23 +1,7 @@
 -- The rows that a pass keeps and gives away: at which site they begin, and how many sites they have. Splitting a seat
 -- gives the seats of a pass that keeps its rows or its upper ones, and of one that gets the lower.
-use Rattle.std.proofs.Common.{◌≡◌, ℕ, ◌+◌, ◌-◌, ◌*◌, ◌<◌, ◌≤◌, List, [], true, false, eqb, ltb, take, drop, length, sym, refl, ap, ◌∙◌, subst, ⊎_elim, arith}
-use Rattle.std.proofs.Math.Nat.{mul-le-mul_right, eq_of_mul-eq-mul_right}
-use Rattle.std.proofs.lemmas.Bool.{cases_eq, cases_lt, eq-eqb, ne_eqb, lt-ltb, le-ltb}
-use Rattle.std.proofs.lemmas.List.{length-drop, length-take-le}
-use Rattle.sand_model.specs.Grid.{Grid, IsGrid}
-use Rattle.sand_shared.specs.declared.rows.Rows.{Rows}
-use Rattle.sand_shared.specs.declared.view.View.{View}
-use Rattle.sand_shared.specs.OpenPile.{nobody}
-use Rattle.sand_shared.specs.Events.{base_of, parent, child}
-use Rattle.sand_shared.specs.Passes.{PassView, at_rest, sites_kept, IsPass}
-use Rattle.sand_shared.specs.Rows.{no_rows, rows_between, count_of, upper_rows, lower_rows, AreRowsOf}
+use Rattle.sand_shared.proofs.Common.{◌≡◌, ℕ, ◌+◌, ◌-◌, ◌*◌, ◌<◌, ◌≤◌, List, [], true, false, eqb, ltb, take, drop, length, sym, refl, ap, ◌∙◌, subst, ⊎_elim, arith, mul-le-mul_right, eq_of_mul-eq-mul_right, cases_eq, cases_lt, eq-eqb, ne_eqb, lt-ltb, le-ltb, length-drop, length-take-le, Grid, IsGrid, Rows, View, nobody, base_of, parent, child, PassView, at_rest, sites_kept, IsPass, no_rows, rows_between, count_of, upper_rows, lower_rows, AreRowsOf, take-length, All-nil, Me, Inside, Receipt, shown, IsBare}
 use Rattle.sand_shared.proofs.RowSites.{times_plus}
-use Rattle.std.proofs.Math.Seq.{take-length}
-use Rattle.std.proofs.lemmas.List.Elements.{All-nil}
-use Rattle.atomic_table.specs.Table.{Me}
-use Rattle.sand_shared.specs.declared.bare_pass.BarePass.TheInside.{Inside}
-use Rattle.sand_shared.specs.declared.view.Receipt.{Receipt}
-use Rattle.sand_shared.specs.Bare.{shown, IsBare}
 
 pub between_some : (a b : ℕ) → a < b → rows_between a b ≡ record { first = a; end = b }
 between_some a b l = let t : ltb a b ≡ true = lt-ltb a b l in rw t

@@ -1,15 +1,5 @@
 -- Lemmas for proofs that use this crate: how many receipts are for a site, and which settled record a record is.
-use Rattle.std.proofs.Common.{◌≡◌, ℕ, ◌+◌, List, [], ◌∷◌, ◌++◌, length, sum_by, refl, subst, arith}
-use Rattle.std.proofs.lemmas.List.Sums.{sum_by-cons, sum_by-append}
-use Rattle.sand_model.specs.Piles.{PileView, height_of}
-use Rattle.sand_model.specs.Sand.{occurrences, one_at}
-use Rattle.sand_model.proofs.Occurrences.{occurrences-cons}
-use Rattle.sand_settle.specs.Settling.{IsSettledRecord}
-use Rattle.sand_shared.specs.declared.view.Receipt.{Receipt}
-use Rattle.sand_shared.specs.OpenPile.{receipts_for}
-use Rattle.sand_shared.specs.Events.{receipt, receipts_from}
-use Rattle.sand_shared.specs.Passes.{PassView, together, together_all}
-use Rattle.sand_shared.specs.Record.{RecordView, IsOneThreads}
+use Rattle.sand_shared.proofs.Common.{◌≡◌, ℕ, ◌+◌, List, [], ◌∷◌, ◌++◌, length, sum_by, refl, subst, arith, sum_by-cons, sum_by-append, PileView, height_of, occurrences, one_at, occurrences-cons, IsSettledRecord, Receipt, receipts_for, receipt, receipts_from, PassView, together, together_all, RecordView, IsOneThreads}
 pub use Rattle.sand_shared.proofs.RecordSums.{is_one_threads}
 
 pub receipts_for-append : (a b : List Receipt) (i : ℕ) → receipts_for (a ++ b) i ≡ receipts_for a i + receipts_for b i

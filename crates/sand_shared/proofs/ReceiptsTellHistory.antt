@@ -1,24 +1,9 @@
 -- No two receipts of a pass have the same number, and each number is below what the pass has seen. So a history can be
 -- written from receipts: the site of each is at its number.
-use Rattle.std.proofs.Common.{◌≡◌, ℕ, ◌+◌, ◌<◌, ◌≤◌, ◌≢◌, max, List, [], ◌∷◌, ◌++◌, length, get_or, eqb, ap, ⊎_elim, arith, zero, suc, ◌-◌, Some, true, set, ltb, sym, refl, ◌∙◌}
-use Rattle.std.specs.Prelude.{nat_lt, slice_get}
-use Rattle.std.proofs.lemmas.Grind.{common_steps, same_number_lists}
+use Rattle.sand_shared.proofs.Common.{◌≡◌, ℕ, ◌+◌, ◌<◌, ◌≤◌, ◌≢◌, max, List, [], ◌∷◌, ◌++◌, length, get_or, eqb, ap, ⊎_elim, arith, zero, suc, ◌-◌, Some, true, set, ltb, sym, refl, ◌∙◌, nat_lt, slice_get, common_steps, same_number_lists, nat_tests, cases_eq, eq-eqb, ne_eqb, lt-ltb, sum_by_push, get_or-le-sum_by, sum_by-cons, All-append, All-cons, All-nil, one_if, Receipt, View, Terms, nobody, numbered, receipt, EachOnce, AllBelow, Stands, Tells}
 use Rattle.std.proofs.lemmas.Option.{gets}
-use Rattle.std.proofs.lemmas.Bool.Decides.{nat_tests}
-use Rattle.std.proofs.lemmas.Bool.{cases_eq, eq-eqb, ne_eqb, lt-ltb}
-use Rattle.std.proofs.lemmas.List.Sums.{sum_by_push, get_or-le-sum_by, sum_by-cons}
-use Rattle.std.proofs.lemmas.List.Elements.{All-append, All-cons, All-nil}
-use Rattle.sand_model.specs.Lists.{one_if}
 use Rattle.sand_model.proofs.Lists.{at_most_one}
-use Rattle.sand_shared.specs.declared.view.Receipt.{Receipt}
-use Rattle.sand_shared.specs.declared.view.View.{View}
-use Rattle.sand_shared.specs.declared.view.Terms.{Terms}
-use Rattle.sand_shared.specs.OpenPile.{nobody, numbered}
-use Rattle.sand_shared.specs.Events.{receipt}
-use Rattle.sand_shared.specs.Passes.{EachOnce, AllBelow}
-use Rattle.sand_shared.specs.Running.{Stands}
 use Rattle.sand_shared.proofs.SumsOverPasses.{sum_by_none, sum_by_two}
-use Rattle.sand_shared.specs.Record.{Tells}
 
 pub one_if_same : (a b : ℕ) → a ≡ b → one_if (eqb a b) ≡ 1
 one_if_same a b e = rw (eq-eqb a b e)

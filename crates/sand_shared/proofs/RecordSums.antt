@@ -1,20 +1,5 @@
 -- The sums in a record are right, and small.
-use Rattle.std.proofs.Common.{◌≡◌, ℕ, ◌+◌, ◌-◌, ◌*◌, ◌^◌, ◌<◌, ◌≤◌, List, ◌++◌, All, length, sum, sym, ap, ◌∙◌, subst, arith, length-append}
-use Rattle.std.specs.Prelude.{slice_index}
-use Rattle.std.proofs.Math.ListN.{get_or-eq_default}
-use Rattle.std.proofs.Math.Nat.{mul-add}
-use Rattle.std.proofs.lemmas.List.Sums.{get_or-le-sum_by}
-use Rattle.std.proofs.lemmas.List.Elements.{All-append}
-use Rattle.sand_model.specs.Grid.{Grid, sites, missing}
-use Rattle.sand_model.specs.Sand.{IsSettled, lost, occurrences, topplings}
-use Rattle.sand_model.specs.Piles.{PileView, IsPile, height_of, most_grains}
-use Rattle.sand_model.proofs.SumsBelow.{sum_below-add, sum_below_same}
-use Rattle.sand_model.proofs.Occurrences.{occurrences-append}
-use Rattle.sand_model.proofs.Heights.{sum_is_grains}
-use Rattle.sand_model.proofs.Sandpile.{laplacian_sum, settled_in_parts}
-use Rattle.sand_model.proofs.Bounds.{topplings_bound}
-use Rattle.sand_settle.specs.Settling.{SettledView, IsSettledRecord, IsSomeSettledRecord, odometer_of}
-use Rattle.sand_shared.specs.Record.{RecordView, IsOneThreads}
+use Rattle.sand_shared.proofs.Common.{◌≡◌, ℕ, ◌+◌, ◌-◌, ◌*◌, ◌^◌, ◌<◌, ◌≤◌, List, ◌++◌, All, length, sum, sym, ap, ◌∙◌, subst, arith, length-append, slice_index, get_or-eq_default, mul-add, get_or-le-sum_by, All-append, Grid, sites, missing, IsSettled, lost, occurrences, topplings, PileView, IsPile, height_of, most_grains, sum_below-add, sum_below_same, occurrences-append, sum_is_grains, laplacian_sum, settled_in_parts, topplings_bound, SettledView, IsSettledRecord, IsSomeSettledRecord, odometer_of, RecordView, IsOneThreads}
 use Rattle.sand_shared.proofs.Balance.{grains_in_all}
 
 -- a start and a history, with the heights and the odometer that they lead to

@@ -1,14 +1,5 @@
 -- Rows in two parts: together the parts hold, and have toppled, what the whole does.
-use Rattle.std.proofs.Common.{◌≡◌, ℕ, ◌+◌, ◌-◌, ◌<◌, ◌≤◌, ◌⊎◌, List, ◌++◌, true, false, length, get_or, leb, ltb, sym, refl, ap, ◌∙◌, subst, inr, ⊎_elim, arith, length-append}
-use Rattle.std.specs.Prelude.{slice_index, ◌&&◌, ◌||◌}
-use Rattle.std.proofs.lemmas.Bool.{cases_Bool}
-use Rattle.std.proofs.lemmas.Bool.Decides.{nat_tests}
-use Rattle.std.proofs.lemmas.List.{get_or-take, get_or-drop, get_or_append_left, get_or-append-add, length-drop, length-take-le}
-use Rattle.std.proofs.Math.ListN.{get_or-eq_default}
-use Rattle.sand_model.specs.Lists.{one_if}
-use Rattle.sand_shared.specs.declared.view.View.{View}
-use Rattle.sand_shared.specs.OpenPile.{holds_site, toppled_by}
-use Rattle.sand_shared.specs.Events.{base_of, follows, parent, child, joined}
+use Rattle.sand_shared.proofs.Common.{◌≡◌, ℕ, ◌+◌, ◌-◌, ◌<◌, ◌≤◌, ◌⊎◌, List, ◌++◌, true, false, length, get_or, leb, ltb, sym, refl, ap, ◌∙◌, subst, inr, ⊎_elim, arith, length-append, slice_index, ◌&&◌, ◌||◌, cases_Bool, nat_tests, get_or-take, get_or-drop, get_or_append_left, get_or-append-add, length-drop, length-take-le, get_or-eq_default, one_if, View, holds_site, toppled_by, base_of, follows, parent, child, joined}
 use Rattle.sand_shared.proofs.GrainsAtSite.{toppled_from, toppled_before, toppled_outside}
 
 -- its rows begin at b, or it has none

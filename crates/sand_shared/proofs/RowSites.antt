@@ -1,10 +1,6 @@
 -- The sites of rows: the site i is in row i / width, and a row begins at a multiple of the width.
-use Rattle.std.proofs.Common.{◌≡◌, ℕ, ◌+◌, ◌*◌, ◌/◌, ◌<◌, ◌≤◌, sym, ap, ◌∙◌, arith}
-use Rattle.std.proofs.Math.Nat.{mul_comm, mul-le-mul_right}
+use Rattle.sand_shared.proofs.Common.{◌≡◌, ℕ, ◌+◌, ◌*◌, ◌/◌, ◌<◌, ◌≤◌, sym, ap, ◌∙◌, arith, mul_comm, mul-le-mul_right, Grid, IsGrid, sites, Rows, count_of, HoldsSite, AreRowsOf}
 use Rattle.std.proofs.lemmas.Nat.{div-add-mod', mod_below}
-use Rattle.sand_model.specs.Grid.{Grid, IsGrid, sites}
-use Rattle.sand_shared.specs.declared.rows.Rows.{Rows}
-use Rattle.sand_shared.specs.Rows.{count_of, HoldsSite, AreRowsOf}
 
 pub times_plus : (a b w : ℕ) → (a + b) * w ≡ a * w + b * w
 times_plus a b w = grind arith

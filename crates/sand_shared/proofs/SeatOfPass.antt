@@ -1,18 +1,9 @@
 -- What a pass has after the step of an event, and what the value found tells it. A seat that has what a pass has is the
 -- seat of that pass.
-use Rattle.std.proofs.Common.{◌≡◌, ℕ, ◌≤◌, [], ◌∷◌, length, sym, ap, ◌∙◌, arith, List, subst, ◌+◌, ◌-◌, ◌<◌, ◌++◌, length-append}
-use Rattle.sand_shared.specs.declared.view.View.{View}
-use Rattle.sand_shared.specs.declared.view.Terms.{Terms}
-use Rattle.sand_shared.specs.OpenPile.{nobody, pass_at}
-use Rattle.sand_shared.specs.Events.{count, look, unload, counted, looked, unloaded, receipts_from, all_draws, drew_all}
-use Rattle.sand_shared.specs.Running.{Happened}
+use Rattle.sand_shared.proofs.Common.{◌≡◌, ℕ, ◌≤◌, [], ◌∷◌, length, sym, ap, ◌∙◌, arith, List, subst, ◌+◌, ◌-◌, ◌<◌, ◌++◌, length-append, View, Terms, nobody, pass_at, count, look, unload, looked, unloaded, receipts_from, all_draws, drew_all, Happened, Inside, Receipt, shown, IsBare, PassView, at_rest, EachOnce, AllBelow, IsPass, Me}
+use Rattle.sand_shared.specs.Events.{counted}
 use Rattle.sand_shared.proofs.WordsShowPile.{pass_at-with}
 use Rattle.atomic_table.specs.Seated.{TableId}
-use Rattle.sand_shared.specs.declared.bare_pass.BarePass.TheInside.{Inside}
-use Rattle.sand_shared.specs.declared.view.Receipt.{Receipt}
-use Rattle.sand_shared.specs.Bare.{shown, IsBare}
-use Rattle.sand_shared.specs.Passes.{PassView, at_rest, EachOnce, AllBelow, IsPass}
-use Rattle.atomic_table.specs.Table.{Me}
 use Rattle.sand_shared.proofs.EventsInARow.{drew_row_is, row_fresh, below_row, once_row}
 use Rattle.sand_shared.proofs.Receipts.{receipts_from-length}
 

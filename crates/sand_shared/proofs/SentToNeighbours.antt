@@ -1,14 +1,7 @@
 -- The grains of a toppling go to the places around the site, one after another.
-use Rattle.std.proofs.Common.{◌≡◌, ℕ, ◌+◌, ◌<◌, ◌≤◌, List, [], ◌∷◌, length, drop, Option, Some, None, IfSome, map, get_or, sym, ap, ◌∙◌, add-one, arith}
-use Rattle.std.proofs.Math.Seq.{drop-cons}
-use Rattle.std.proofs.lemmas.List.{drop_all}
+use Rattle.sand_shared.proofs.Common.{◌≡◌, ℕ, ◌+◌, ◌<◌, ◌≤◌, List, [], ◌∷◌, length, drop, Option, Some, None, IfSome, map, get_or, sym, ap, ◌∙◌, add-one, arith, drop-cons, drop_all, View, Grains, places, Terms, grid_of_terms, grains_for, sent, behind_first, delivered_to}
 use Rattle.std.specs.List.{filter_map}
-use Rattle.sand_shared.specs.declared.view.View.{View}
-use Rattle.sand_shared.specs.declared.view.Grains.{Grains}
-use Rattle.sand_model.specs.Grid.{neighbours, places}
-use Rattle.sand_shared.specs.declared.view.Terms.{Terms}
-use Rattle.sand_shared.specs.OpenPile.{grid_of_terms}
-use Rattle.sand_shared.specs.Events.{grains_for, sent, behind_first, delivered_to}
+use Rattle.sand_model.specs.Grid.{neighbours}
 
 -- k grains for each of these places that has a neighbour
 abbrev pub sends : ℕ → List (Option ℕ) → List Grains

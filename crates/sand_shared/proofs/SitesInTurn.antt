@@ -1,13 +1,7 @@
 -- A sweep site by site: the counts with which it comes to a site, and how often the site may then topple. So the sweep
 -- of a whole pass is determined: what each site finds depends only on the sites before it.
-use Rattle.std.proofs.Common.{◌≡◌, ℕ, zero, suc, ◌+◌, ◌-◌, ◌*◌, ◌<◌, ◌≤◌, List, [], ◌∷◌, ◌++◌, length, set, get_or, take, drop, sym, refl, ap, ◌∙◌, subst, ⊎_elim, arith, sum}
-use Rattle.std.proofs.lemmas.Bool.{cases_eq}
-use Rattle.std.proofs.lemmas.List.{get_or-set_same, get_or-set_other, take-set-le, take_more_same, take_all}
-use Rattle.sand_shared.specs.declared.view.View.{View}
-use Rattle.sand_shared.specs.declared.view.Terms.{Terms}
-use Rattle.sand_shared.specs.Sweeps.{LeavesAtMost, LeavesAtLeast, with_counts, TopplesInTurn, coming_to, SweptRows, SweptAll}
+use Rattle.sand_shared.proofs.Common.{◌≡◌, ℕ, zero, suc, ◌+◌, ◌-◌, ◌*◌, ◌<◌, ◌≤◌, List, [], ◌∷◌, ◌++◌, length, set, get_or, take, drop, sym, refl, ap, ◌∙◌, subst, ⊎_elim, arith, sum, cases_eq, get_or-set_same, get_or-set_other, take-set-le, take_more_same, take_all, View, Terms, LeavesAtMost, LeavesAtLeast, with_counts, TopplesInTurn, coming_to, SweptRows, SweptAll, at_rest}
 use Rattle.sand_shared.specs.Laws.{OneSweep}
-use Rattle.sand_shared.specs.Passes.{at_rest}
 
 same_behind : (xs ys : List ℕ) (k : ℕ) → length xs ≡ length ys → ((j : ℕ) → k ≤ j → get_or xs j 0 ≡ get_or ys j 0)
     → take k xs ++ drop k ys ≡ xs

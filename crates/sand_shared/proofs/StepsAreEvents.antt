@@ -1,19 +1,10 @@
 -- Each step of a call is allowed at any moment: it is an event, or a few, that can happen then.
-use Rattle.std.proofs.Common.{◌≡◌, ℕ, zero, suc, ◌+◌, ◌-◌, ◌*◌, ◌%◌, ◌^◌, ◌<◌, ◌≤◌, List, [], ◌∷◌, ◌++◌, true, length, set, get_or, sym, refl, ap, ◌∙◌, subst, arith}
-use Rattle.std.specs.Prelude.{slice_index, count_by, ◌||◌}
+use Rattle.sand_shared.proofs.Common.{◌≡◌, ℕ, zero, suc, ◌+◌, ◌-◌, ◌*◌, ◌%◌, ◌^◌, ◌<◌, ◌≤◌, List, [], ◌∷◌, ◌++◌, true, length, set, get_or, sym, refl, ap, ◌∙◌, subst, arith, slice_index, count_by, ◌||◌, State, Me, keeps, Allows, Splits, Joins, opening, sites, View, Terms, OpenPile, nobody, grid_of_terms, holds_site, pass_at, AreTerms, IsLawful, Event, begin, count, split, join, look, unload, deliver, are_for, looked, parent, child, joined, follows, first_pass, unopened, May, after, AllHappen, after_all, IsLast, Takes, Shows, IsRunning, Stands, Finds}
 use mathlib.Core.Option.{some, some-injective, some-ne-none}
 use lib.ListN.{get_elem?}
 use lib.Seq.{set-get_or}
-use Rattle.atomic_table.specs.Table.{State, Me, keeps, Allows, Splits, Joins, opening}
 use Rattle.atomic_table.proofs.Lists.{set_else}
-use Rattle.sand_model.specs.Grid.{sites}
-use Rattle.sand_shared.specs.declared.view.View.{View}
-use Rattle.sand_shared.specs.declared.view.Terms.{Terms}
-use Rattle.sand_shared.specs.OpenPile.{OpenPile, nobody, grid_of_terms, holds_site, pass_at, AreTerms, IsLawful}
-use Rattle.sand_shared.specs.Events.{Event, begin, count, split, join, look, unload, deliver, are_for, counted, looked, parent, child, joined, follows, first_pass, unopened, May, after, AllHappen, after_all}
-use Rattle.sand_shared.specs.Record.{IsLast}
-use Rattle.sand_shared.specs.Plays.{Takes}
-use Rattle.sand_shared.specs.Running.{Shows, IsRunning, Stands, Finds}
+use Rattle.sand_shared.specs.Events.{counted}
 use Rattle.sand_shared.proofs.Lawfulness.{always_lawful, after_all-append, happen_append}
 use Rattle.sand_shared.proofs.WordsShowPile.{stepped_to, shows_load, shows_arrived, shows_unload}
 

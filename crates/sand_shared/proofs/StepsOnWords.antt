@@ -1,17 +1,7 @@
 -- The table requires of a step: a seat at the table, a word in range, and a step that the rule allows. The words are
 -- those that contracts see; the terms and the events are those chosen at the call.
-use Rattle.std.proofs.Common.{◌≡◌, ℕ, ◌+◌, ◌<◌, List, sym, ap, ◌∙◌, subst, arith}
-use Rattle.atomic_table.specs.Table.{Allows}
+use Rattle.sand_shared.proofs.Common.{◌≡◌, ℕ, ◌+◌, ◌<◌, List, sym, ap, ◌∙◌, subst, arith, Allows, Grid, sites, View, Terms, grid_of_terms, Event, SharedView, Takes, IsRunning, AreWords, IsSeatAt, StaysSeated}
 use Rattle.atomic_table.specs.declared.shared.Seat.{Seat}
-use Rattle.sand_model.specs.Grid.{Grid, sites}
-use Rattle.sand_shared.specs.declared.view.View.{View}
-use Rattle.sand_shared.specs.declared.view.Terms.{Terms}
-use Rattle.sand_shared.specs.OpenPile.{grid_of_terms}
-use Rattle.sand_shared.specs.Events.{Event}
-use Rattle.sand_shared.specs.Passes.{SharedView}
-use Rattle.sand_shared.specs.Plays.{Takes}
-use Rattle.sand_shared.specs.Running.{IsRunning}
-use Rattle.sand_shared.specs.Seats.{AreWords, IsSeatAt, StaysSeated}
 
 pub stays_on : {first mid last : Seat ℕ View} → StaysSeated first mid → StaysSeated mid last → StaysSeated first last
 stays_on before after = record { table = after.table ∙ before.table; id = after.id ∙ before.id; bare = after.bare }

@@ -1,9 +1,5 @@
 -- Sums over the passes of a pile: one pass changes, one has everything, and the order of two sums.
-use Rattle.std.proofs.Common.{◌≡◌, ℕ, zero, suc, ◌+◌, ◌<◌, ◌≤◌, ◌≢◌, List, [], ◌∷◌, map, length, set, get_or, sum_by, All, sym, refl, ap, ◌∙◌, subst, ⊎_elim, arith}
-use Rattle.std.proofs.lemmas.Bool.{cases_eq}
-use Rattle.std.proofs.lemmas.List.{get_or-set_same, get_or-set_other, length-set}
-use Rattle.std.proofs.lemmas.List.Elements.{All-from_get_or}
-use Rattle.std.proofs.lemmas.List.Sums.{sum_by-cons, sum_by-set, sum_by-le, sum_by-le-sum_by, get_or-le-sum_by}
+use Rattle.sand_shared.proofs.Common.{◌≡◌, ℕ, zero, suc, ◌+◌, ◌<◌, ◌≤◌, ◌≢◌, List, [], ◌∷◌, map, length, set, get_or, sum_by, All, sym, refl, ap, ◌∙◌, subst, ⊎_elim, arith, cases_eq, get_or-set_same, get_or-set_other, length-set, All-from_get_or, sum_by-cons, sum_by-set, sum_by-le, sum_by-le-sum_by, get_or-le-sum_by}
 
 module _ {A : Type 0} where
   sum_by_le : (f g : A → ℕ) (l : List A) (d : A) → ((j : ℕ) → j < length l → f (get_or l j d) ≤ g (get_or l j d))

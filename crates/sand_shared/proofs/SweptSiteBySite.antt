@@ -1,22 +1,6 @@
 -- A sweep, site by site.
-use Rattle.std.proofs.Common.{◌≡◌, ℕ, ◌+◌, ◌-◌, ◌*◌, ◌^◌, ◌<◌, ◌≤◌, ◌≢◌, List, length, set, get_or, leb, ltb, sum, sym, refl, ap, ◌∙◌, subst, ⊎_elim, arith}
-use Rattle.std.specs.Prelude.{slice_index, ◌&&◌}
-use Rattle.std.proofs.lemmas.Bool.Decides.{nat_tests}
-use Rattle.std.proofs.lemmas.Bool.{cases_eq}
-use Rattle.std.proofs.lemmas.List.{nil_from_length, length-set, get_or-set_same, get_or-set_other}
-use Rattle.std.proofs.lemmas.List.Sums.{sum_by-set}
+use Rattle.sand_shared.proofs.Common.{◌≡◌, ℕ, ◌+◌, ◌-◌, ◌*◌, ◌^◌, ◌<◌, ◌≤◌, ◌≢◌, List, length, set, get_or, leb, ltb, sum, sym, refl, ap, ◌∙◌, subst, ⊎_elim, arith, slice_index, ◌&&◌, nat_tests, cases_eq, nil_from_length, length-set, get_or-set_same, get_or-set_other, sum_by-set, sites, flow_le, counted, View, Terms, grid_of_terms, toppled_by, looked, raised, PassView, at_rest, count_of, HasAll, LeavesAtMost, LeavesAtLeast, IsCalm, IsSparing, with_counts, SweptRows, SweptAll, Swept}
 use lib.Seq.{set-get_or}
-use Rattle.sand_model.specs.Grid.{sites}
-use Rattle.sand_model.proofs.Flow.{flow_le}
-use Rattle.sand_model.proofs.Heights.{counted}
-use Rattle.sand_shared.specs.declared.view.View.{View}
-use Rattle.sand_shared.specs.declared.view.Terms.{Terms}
-use Rattle.sand_shared.specs.OpenPile.{grid_of_terms, toppled_by}
-use Rattle.sand_shared.specs.Events.{looked, raised}
-use Rattle.sand_shared.specs.Passes.{PassView, at_rest}
-use Rattle.sand_shared.specs.Rows.{count_of}
-use Rattle.sand_shared.specs.Seats.{HasAll}
-use Rattle.sand_shared.specs.Sweeps.{LeavesAtMost, LeavesAtLeast, IsCalm, IsSparing, with_counts, SweptRows, SweptAll, Swept}
 use Rattle.sand_shared.proofs.GrainsAtSite.{place_inside, toppled_from}
 use Rattle.sand_shared.proofs.RowPartsAddUp.{none_toppled}
 use Rattle.sand_shared.proofs.SitesInTurn.{AllInTurn, one_in_turn}

@@ -1,15 +1,5 @@
 -- A whole pass holds all sites.
-use Rattle.std.proofs.Common.{◌≡◌, ℕ, ◌+◌, ◌-◌, ◌*◌, List, leb, ltb, length, ap, ◌∙◌, arith}
-use Rattle.std.specs.Prelude.{◌&&◌}
-use Rattle.std.proofs.Math.Nat.{mul_comm}
-use Rattle.std.proofs.lemmas.Bool.Decides.{nat_tests}
-use Rattle.sand_model.specs.Grid.{sites}
-use Rattle.sand_shared.specs.declared.rows.Rows.{Rows}
-use Rattle.sand_shared.specs.declared.view.Terms.{Terms}
-use Rattle.sand_shared.specs.OpenPile.{grid_of_terms}
-use Rattle.sand_shared.specs.Passes.{PassView, at_rest, IsWhole}
-use Rattle.sand_shared.specs.Rows.{count_of}
-use Rattle.sand_shared.specs.Seats.{HasAll}
+use Rattle.sand_shared.proofs.Common.{◌≡◌, ℕ, ◌+◌, ◌-◌, ◌*◌, List, leb, ltb, length, ap, ◌∙◌, arith, ◌&&◌, mul_comm, nat_tests, sites, Rows, Terms, grid_of_terms, PassView, at_rest, IsWhole, count_of, HasAll}
 
 module _ (t : Terms) (p : PassView) (same : p.grid ≡ grid_of_terms t)
     (each : length p.counts ≡ count_of p.rows * p.grid.width) (whole : IsWhole t p) where

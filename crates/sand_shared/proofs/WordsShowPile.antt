@@ -1,18 +1,6 @@
 -- After a step on one word, the words and the views show the open pile after the event.
-use Rattle.std.proofs.Common.{◌≡◌, ℕ, ◌+◌, ◌-◌, ◌*◌, ◌%◌, ◌^◌, ◌<◌, ◌≢◌, List, [], ◌∷◌, length, set, refl, ap, ◌∙◌, arith, mod-eq_of_lt, length-append}
-use Rattle.std.proofs.lemmas.Grind.{common_steps}
-use Rattle.std.specs.Prelude.{slice_index, count_by}
-use Rattle.std.proofs.Math.Nat.{add-mod_right}
-use Rattle.std.proofs.lemmas.List.{get_or-set_same, get_or-set_other, length-set}
-use Rattle.std.proofs.lemmas.List.Sums.{get_or-le-sum_by}
+use Rattle.sand_shared.proofs.Common.{◌≡◌, ℕ, ◌+◌, ◌-◌, ◌*◌, ◌%◌, ◌^◌, ◌<◌, ◌≢◌, List, [], ◌∷◌, length, set, refl, ap, ◌∙◌, arith, mod-eq_of_lt, length-append, common_steps, slice_index, count_by, add-mod_right, get_or-set_same, get_or-set_other, length-set, get_or-le-sum_by, State, sites, View, Terms, OpenPile, nobody, grid_of_terms, held, pass_at, AreTerms, IsLawful, draw, unload, are_for, drew, after_laying, unloaded, arrived, with_pass, May, after, Shows}
 use lib.Seq.{set-get_or}
-use Rattle.atomic_table.specs.Table.{State}
-use Rattle.sand_model.specs.Grid.{sites}
-use Rattle.sand_shared.specs.declared.view.View.{View}
-use Rattle.sand_shared.specs.declared.view.Terms.{Terms}
-use Rattle.sand_shared.specs.OpenPile.{OpenPile, nobody, grid_of_terms, held, pass_at, AreTerms, IsLawful}
-use Rattle.sand_shared.specs.Events.{draw, unload, are_for, drew, after_laying, unloaded, arrived, with_pass, May, after}
-use Rattle.sand_shared.specs.Running.{Shows}
 use Rattle.sand_shared.proofs.GrainsAtSite.{amount_here, amount_else}
 use Rattle.sand_shared.proofs.HandAfterPlacing.{held-without}
 use Rattle.sand_shared.proofs.Lawfulness.{few_present}

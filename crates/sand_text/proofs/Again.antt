@@ -1,28 +1,12 @@
 -- The written text of a pile is read as the same pile.
 use Rattle.std.proofs.lemmas.Grind.{pieces}
-use Rattle.std.proofs.Common.{◌≡◌, ℕ, zero, suc, ◌+◌, ◌*◌, ◌<◌, ◌≤◌, ◌^◌, List, [], ◌∷◌, ◌++◌, length, take, drop, None, decimal, refl, ◌∙◌, ap, arith, append_assoc, length-drop, zero-mul, suc-mul, mul_comm, ◌&&◌, ltb, eq-eqb, not, true, false, cond, eqb, min, subst}
-use Rattle.std.specs.Prelude.{Ok}
-use Rattle.std.specs.Bool.{if◌then◌else◌, ◌==◌}
-use Rattle.std.specs.List.{All}
-use Rattle.std.specs.Str.Parse.{digits_value}
-use Rattle.std.proofs.lemmas.List.{take-append-drop, take_all, nil_from_length}
+use Rattle.sand_text.proofs.Common.{◌≡◌, ℕ, zero, suc, ◌+◌, ◌*◌, ◌<◌, ◌≤◌, ◌^◌, List, [], ◌∷◌, ◌++◌, length, take, drop, None, decimal, refl, ◌∙◌, ap, arith, append_assoc, length-drop, zero-mul, suc-mul, mul_comm, ◌&&◌, ltb, eq-eqb, not, true, false, cond, eqb, min, subst, Ok, if◌then◌else◌, ◌==◌, All, digits_value, take-append-drop, take_all, nil_from_length, position_or_len_is, get_or-le-sum_by, decimal_is_IsNumeral, decimal_nonempty, nat_tests, Edge, Open, Cylinder, Grid, IsGrid, grid_with_edge, joins, PileView, IsPile, most_grains, Token, Number, is_digit, is_other, is_space, digits_len, tokens_at, tokens, numbers, edge_text, text_of, usual}
 use Rattle.std.proofs.lemmas.List.Elements.{All-tail, All-weaker}
-use Rattle.std.proofs.lemmas.List.Sums.{position_or_len_is, get_or-le-sum_by}
-use Rattle.std.proofs.lemmas.Fmt.{decimal_is_IsNumeral, decimal_nonempty}
-use Rattle.std.proofs.lemmas.Bool.Decides.{nat_tests}
-use Rattle.sand_model.specs.declared.shape.Edge.{Edge}
-use Rattle.sand_model.specs.declared.shape.Edge.TheVariants.{Open, Cylinder}
-use Rattle.sand_model.specs.Grid.{Grid, IsGrid, grid_with_edge, joins}
-use Rattle.sand_model.specs.Piles.{PileView, IsPile, most_grains}
-use Rattle.sand_text.specs.declared.tokens.Token.{Token}
-use Rattle.sand_text.specs.declared.tokens.Token.TheVariants.{Number}
-use Rattle.sand_text.specs.Bytes.{is_digit, is_other, is_space, digits_len}
-use Rattle.sand_text.specs.Tokens.{token_of, tokens_from, tokens_at, tokens, first_strange, first_large, edge_behind, numbers}
-use Rattle.sand_text.specs.Texts.{row_text, rows_text, edge_text, text_of}
+use Rattle.sand_text.specs.Tokens.{token_of, tokens_from, first_strange, first_large, edge_behind}
+use Rattle.sand_text.specs.Texts.{row_text, rows_text}
 use Rattle.sand_text.specs.Reading.{front_of, pile_of}
 use Rattle.sand_text.proofs.Cuts.{after_space, after_token}
 use Rattle.sand_text.proofs.Decimals.{only_digits}
-use Rattle.sand_text.proofs.Usual.{usual}
 
 abbrev AreSmall : List ℕ → Type 0
 AreSmall ns = All (λ n. n ≤ most_grains) ns

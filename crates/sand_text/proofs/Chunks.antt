@@ -1,14 +1,9 @@
 -- Writing the chunks of a list, one after another.
-use Rattle.std.proofs.Common.{◌≡◌, ℕ, suc, ◌-◌, ◌<◌, List, [], ◌++◌, length, take, drop, min, Some, None, Bor, arith, append_assoc, append-nil, length-drop}
-use Rattle.std.proofs.Math.Nat.{div-eq_of_lt, mod-eq_of_lt, zero-div, zero-mod, add-div_right, add-mod_right}
-use Rattle.std.proofs.lemmas.Bool.{cases_lt}
-use Rattle.std.proofs.lemmas.List.{take_min, drop_min, take_at, drop_at}
+use Rattle.sand_text.proofs.Common.{◌≡◌, ℕ, suc, ◌-◌, ◌<◌, List, [], ◌++◌, length, take, drop, min, Some, None, Bor, arith, append_assoc, append-nil, length-drop, div-eq_of_lt, mod-eq_of_lt, zero-div, zero-mod, add-div_right, add-mod_right, cases_lt, take_min, drop_min, take_at, drop_at, flat_map, usual}
 use Rattle.std.specs.Int.{div_ceil}
-use Rattle.std.specs.List.{flat_map}
 use Rattle.std.specs.Slice.Iter.{chunks_rest, chunks_size, chunks_steps}
 use Rattle.std.specs.declared.slice.Chunks.{Chunks}
 use Rattle.sand_text.specs.Pictures.{chunks}
-use Rattle.sand_text.proofs.Usual.{usual}
 
 -- after the first chunk there is one chunk less
 one_less : (n size : ℕ) → 0 < size → 0 < n → div_ceil n size ≡ suc (div_ceil (n - size) size)

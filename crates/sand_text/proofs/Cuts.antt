@@ -1,18 +1,8 @@
 -- A text is cut into white space and tokens, so a claim for all texts is proved byte by byte of the white space, and
 -- token by token.
-use Rattle.std.proofs.Common.{◌≡◌, ℕ, suc, zero, ◌+◌, ◌<◌, ◌≤◌, List, [], ◌∷◌, ◌++◌, Bool, true, false, not, length, take, drop, get_or, refl, sym, ◌∙◌, ap, arith, add-zero, append-nil, drop-cons, length-append, length-drop, inl, inr, subst}
-use Rattle.std.proofs.lemmas.Bool.{not-true, cases_Bool}
+use Rattle.sand_text.proofs.Common.{◌≡◌, ℕ, suc, zero, ◌+◌, ◌<◌, ◌≤◌, List, [], ◌∷◌, ◌++◌, Bool, true, false, not, length, take, drop, get_or, refl, sym, ◌∙◌, ap, arith, add-zero, append-nil, drop-cons, length-append, length-drop, inl, inr, subst, not-true, cases_Bool, get_or-drop, nil_from_length, take-append-drop, length-prefix_len, slice_split_none, slice_split_at, prefix_len-le-length, fails_before_first, passes_at_first, All, position_or_len, position, unwrap_or, is_space, token_len, token_of, tokens_at, Token, usual}
 use Rattle.std.proofs.lemmas.Grind.{common_steps}
-use Rattle.std.proofs.lemmas.List.{get_or-drop, nil_from_length, take-append-drop}
-use Rattle.std.proofs.lemmas.List.Folds.{length-prefix_len}
-use Rattle.std.proofs.lemmas.List.Splits.{slice_split_none, slice_split_at}
-use Rattle.std.proofs.lemmas.List.Sums.{prefix_len-le-length, fails_before_first, passes_at_first}
-use Rattle.std.specs.List.{All, position_or_len, position}
-use Rattle.std.specs.Option.{unwrap_or}
-use Rattle.sand_text.specs.Bytes.{is_space, token_len}
-use Rattle.sand_text.specs.Tokens.{token_of, tokens_from, tokens_at}
-use Rattle.sand_text.specs.declared.tokens.Token.{Token}
-use Rattle.sand_text.proofs.Usual.{usual}
+use Rattle.sand_text.specs.Tokens.{tokens_from}
 
 pub unwrap_position : (p : ℕ → Bool) (xs : List ℕ) → unwrap_or (position p xs) (length xs) ≡ position_or_len p xs
 unwrap_position p xs = grind (arith, common_steps, prefix_len-le-length (λ x. not (p x)) xs)

@@ -1,12 +1,7 @@
 -- The decimal digits of a number.
-use Rattle.std.proofs.Common.{◌≡◌, ℕ, ◌<◌, ◌^◌, get_or, decimal, true, arith}
-use Rattle.std.specs.List.{All}
+use Rattle.sand_text.proofs.Common.{◌≡◌, ℕ, ◌<◌, ◌^◌, get_or, decimal, true, arith, All, nat_tests, decimal_is_IsNumeral, get_or_default, is_digit}
 use Rattle.std.specs.Int.{IsInRange}
-use Rattle.std.proofs.lemmas.Bool.Decides.{nat_tests}
-use Rattle.std.proofs.lemmas.Fmt.{decimal_is_IsNumeral}
-use Rattle.std.proofs.lemmas.List.{get_or_default}
 use Rattle.std.proofs.lemmas.Str.Parse.{digit_at}
-use Rattle.sand_text.specs.Bytes.{is_digit}
 
 in_digits : (b : ℕ) → IsInRange 48 57 b → is_digit b ≡ true
 in_digits b h = grind (arith, nat_tests, h.0, h.1)

@@ -1,18 +1,9 @@
 -- The numbers of a text, by its tokens and by its longest runs of digits.
-use Rattle.std.proofs.Common.{◌≡◌, ℕ, ◌+◌, List, ◌∷◌, ◌++◌, true, false, map, None, refl, ◌∙◌, ap, arith, append-nil, inl, inr}
-use Rattle.std.specs.List.{All}
-use Rattle.std.specs.Str.Parse.{digits_value}
-use Rattle.std.proofs.lemmas.Bool.{cases_cond}
-use Rattle.std.proofs.lemmas.Bool.Decides.{nat_tests}
-use Rattle.std.proofs.lemmas.List.Splits.{slice_split_none, slice_split_at}
-use Rattle.sand_text.specs.declared.tokens.Token.{Token}
-use Rattle.sand_text.specs.declared.tokens.Token.TheVariants.{Letter}
-use Rattle.sand_text.specs.Bytes.{is_other, is_space, capped}
-use Rattle.sand_text.specs.Tokens.{token_of, first_strange, numbers}
+use Rattle.sand_text.proofs.Common.{◌≡◌, ℕ, ◌+◌, List, ◌∷◌, ◌++◌, true, false, map, None, refl, ◌∙◌, ap, arith, append-nil, inl, inr, All, digits_value, cases_cond, nat_tests, slice_split_none, slice_split_at, Token, Letter, is_other, is_space, capped, numbers, usual}
+use Rattle.sand_text.specs.Tokens.{token_of, first_strange}
 use Rattle.sand_text.specs.Laws.{digit_runs, NumbersAreRuns}
 use Rattle.sand_text.proofs.Cuts.{IsToken, by_tokens}
 use Rattle.sand_text.proofs.StrangeBytes.{kind}
-use Rattle.sand_text.proofs.Usual.{usual}
 
 -- white space is not a digit
 space_other : (b : ℕ) → is_space b ≡ true → is_other b ≡ true

@@ -1,14 +1,8 @@
 -- A text that is written in blocks grows part by part, and writing may fail in one of them.
-use Rattle.std.proofs.Common.{◌≡◌, ℕ, ◌+◌, List, [], ◌++◌, length, take, length-append, append-nil, append_assoc, sym, ◌∙◌, ap, arith, subst}
-use Rattle.std.proofs.Math.Seq.{take-append-add}
-use Rattle.std.specs.Prelude.{Option}
-use Rattle.std.specs.Io.KnownBytes.{Appends}
-use Rattle.std.proofs.KnownBytes.{Appends-nil, Appends-trans}
-use Rattle.std.proofs.lemmas.List.{take-append-le}
+use Rattle.sand_text.proofs.Common.{◌≡◌, ℕ, ◌+◌, List, [], ◌++◌, length, take, length-append, append-nil, append_assoc, sym, ◌∙◌, ap, arith, subst, take-append-add, Option, Appends, Appends-nil, Appends-trans, take-append-le, usual}
 use Rattle.sand_text.specs.declared.fault.StreamFault.{StreamFault}
 use Rattle.sand_text.specs.declared.fault.StreamFault.TheVariants.{Write}
 use Rattle.sand_text.specs.Blocks.{BreaksIn, GrowsBy, Waiting}
-use Rattle.sand_text.proofs.Usual.{usual}
 
 pub stays : (held : Option (List ℕ)) (b : Waiting) → GrowsBy held held b b []
 stays held b = record { gone = []; all = append-nil b.bytes; count = omega arith; written = Appends-nil held }

@@ -1,15 +1,6 @@
 -- One more byte of the runs of digits.
-use Rattle.std.proofs.Common.{◌≡◌, ℕ, ◌+◌, ◌*◌, ◌<◌, ◌≤◌, List, [], ◌∷◌, Bool, true, false, length, drop, get_or, ltb, sym, arith, ◌||◌, nat_lt}
-use Rattle.std.specs.Bool.{if◌then◌else◌}
+use Rattle.sand_text.proofs.Common.{◌≡◌, ℕ, ◌+◌, ◌*◌, ◌<◌, ◌≤◌, List, [], ◌∷◌, Bool, true, false, length, drop, get_or, ltb, sym, arith, ◌||◌, nat_lt, if◌then◌else◌, list_any, onto_first, slice_split, digits_value, digits_value_after, nat_tests, drop_all, drop_more, slice_split-cons_yes, slice_split-cons_no, is_digit, is_other, capped, has_large, most_grains, usual}
 use Rattle.std.specs.Char.{digit_value}
-use Rattle.std.specs.List.{list_any, onto_first, slice_split}
-use Rattle.std.specs.Str.Parse.{digits_value, digits_value_after}
-use Rattle.std.proofs.lemmas.Bool.Decides.{nat_tests}
-use Rattle.std.proofs.lemmas.List.{drop_all, drop_more}
-use Rattle.std.proofs.lemmas.List.Splits.{slice_split-cons_yes, slice_split-cons_no}
-use Rattle.sand_text.specs.Bytes.{is_digit, is_other, capped, has_large}
-use Rattle.sand_model.specs.Piles.{most_grains}
-use Rattle.sand_text.proofs.Usual.{usual}
 
 abbrev over : List ℕ → Bool
 over run = nat_lt most_grains (digits_value 10 run)

@@ -1,9 +1,6 @@
 -- A text has no more numbers than bytes.
-use Rattle.std.proofs.Common.{ℕ, suc, ◌≤◌, List, ◌∷◌, length, length-append, arith}
-use Rattle.sand_text.specs.declared.tokens.Token.{Token}
-use Rattle.sand_text.specs.Tokens.{token_of, tokens_at, numbers}
+use Rattle.sand_text.proofs.Common.{ℕ, suc, ◌≤◌, List, ◌∷◌, length, length-append, arith, Token, token_of, tokens_at, numbers, usual}
 use Rattle.sand_text.proofs.Cuts.{by_tokens}
-use Rattle.sand_text.proofs.Usual.{usual}
 
 one_more : (w : Token) (ws : List Token) → length (numbers (w ∷ ws)) ≤ suc (length (numbers ws))
 one_more w ws = grind (arith, usual)

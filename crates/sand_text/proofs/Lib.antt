@@ -21,3 +21,4 @@ pub mod TwoPiles
 pub mod TwoWalks
 pub mod Taking
 pub mod Usual
+pub mod Common

@@ -1,17 +1,5 @@
 -- One more number after the sides of a text: a height, or the site of a drop.
-use Rattle.std.proofs.Common.{◌≡◌, ℕ, ◌+◌, ◌-◌, ◌<◌, ◌≤◌, not, List, [], ◌∷◌, ◌++◌, Bool, length, take, drop, get_or, eqb, cond, refl, arith, length-drop, Option, Some, None, nat_lt, nat_le, sum}
-use Rattle.std.specs.Bool.{if◌then◌else◌}
-use Rattle.std.specs.List.{position, position_or_len}
-use Rattle.std.proofs.lemmas.Bool.{cases_lt}
-use Rattle.std.proofs.lemmas.List.{get_or-drop, take_all, drop_all, take-append-le, drop-append-le, length_push, take_more, length-take-le}
-use Rattle.std.proofs.lemmas.List.Sums.{sum_by_push, prefix_len-le-length}
-use Rattle.std.proofs.lemmas.List.Folds.{position_or_len_push}
-use Rattle.std.specs.Option.{option_or}
-use Rattle.sand_text.specs.declared.tokens.Token.{Token}
-use Rattle.sand_text.specs.Bytes.{capped}
-use Rattle.sand_text.specs.Tokens.{numbers}
-use Rattle.sand_text.specs.Surveys.{noted}
-use Rattle.sand_text.proofs.Usual.{usual}
+use Rattle.sand_text.proofs.Common.{◌≡◌, ℕ, ◌+◌, ◌-◌, ◌<◌, ◌≤◌, not, List, [], ◌∷◌, ◌++◌, Bool, length, take, drop, get_or, eqb, cond, refl, arith, length-drop, Option, Some, None, nat_lt, nat_le, sum, if◌then◌else◌, position, position_or_len, cases_lt, get_or-drop, take_all, drop_all, take-append-le, drop-append-le, length_push, take_more, length-take-le, sum_by_push, prefix_len-le-length, position_or_len_push, option_or, Token, capped, numbers, noted, usual}
 
 pub sum_push : (room value g : ℕ) (ns : List ℕ) → g ≡ capped (sum (take room ns))
     → (if nat_lt (length ns) room then capped (g + value) else g) ≡ capped (sum (take room (ns ++ value ∷ [])))

@@ -1,8 +1,6 @@
 -- Writing a line for each item of a list, one after another.
-use Rattle.std.proofs.Common.{◌≡◌, ℕ, ◌+◌, ◌<◌, ◌≤◌, List, [], ◌∷◌, ◌++◌, length, take, get_or, map, refl, ap, sym, ◌∙◌, arith, append_assoc, append-nil}
-use Rattle.std.proofs.lemmas.List.{take_all, take_more, length-take}
+use Rattle.sand_text.proofs.Common.{◌≡◌, ℕ, ◌+◌, ◌<◌, ◌≤◌, List, [], ◌∷◌, ◌++◌, length, take, get_or, map, refl, ap, sym, ◌∙◌, arith, append_assoc, append-nil, take_all, take_more, length-take, usual}
 use Rattle.sand_text.specs.Runs.{lines_from}
-use Rattle.sand_text.proofs.Usual.{usual}
 
 -- the line of one more item follows the lines of a list
 pub lines_from-more : {A : Type 0} (line : ℕ → A → List ℕ) (n : ℕ) (xs : List A) (x : A)

@@ -1,21 +1,10 @@
 -- The lines of the picture of a stable pile.
-use Rattle.std.proofs.Common.{◌≡◌, ℕ, zero, suc, ◌+◌, ◌*◌, ◌^◌, ◌<◌, ◌≤◌, List, [], ◌∷◌, ◌++◌, true, false, length, take, drop, decimal, refl, sym, ◌∙◌, ap, arith, inl, inr, append_assoc, append-nil, length-drop, length-append, eqb}
-use Rattle.std.specs.Bool.{◌==◌}
-use Rattle.std.specs.List.{All, flat_map, slice_split}
-use Rattle.std.proofs.lemmas.Bool.{cases_lt}
-use Rattle.std.proofs.lemmas.Bool.Decides.{nat_tests}
-use Rattle.std.proofs.lemmas.Fmt.{decimal_digit, length-decimal-le}
-use Rattle.std.proofs.lemmas.List.{get_or_default, length-take}
+use Rattle.sand_text.proofs.Common.{◌≡◌, ℕ, zero, suc, ◌+◌, ◌*◌, ◌^◌, ◌<◌, ◌≤◌, List, [], ◌∷◌, ◌++◌, true, false, length, take, drop, decimal, refl, sym, ◌∙◌, ap, arith, inl, inr, append_assoc, append-nil, length-drop, length-append, eqb, ◌==◌, All, flat_map, slice_split, cases_lt, nat_tests, decimal_digit, length-decimal-le, get_or_default, length-take, slice_split_at, PileView, IsPile, height_of, chunks, lines_text, values_text, pgm_text_of, IsShort, NoLongLine, is_digit, usual}
 use Rattle.std.proofs.lemmas.List.Elements.{All-nil, All-cons, All-tail, All-append, All-take, All-drop, All-weaker}
-use Rattle.std.proofs.lemmas.List.Splits.{slice_split_at}
 use Rattle.sand_model.specs.Sand.{IsStable}
-use Rattle.sand_model.specs.Piles.{PileView, IsPile, height_of}
 use Rattle.sand_text.specs.Texts.{row_text}
-use Rattle.sand_text.specs.Pictures.{chunks, lines_text, values_text, pgm_text_of, IsShort, NoLongLine}
-use Rattle.sand_text.specs.Bytes.{is_digit}
 use Rattle.sand_text.proofs.Decimals.{only_digits}
 use Rattle.sand_text.proofs.Chunks.{chunks-next, chunks-end}
-use Rattle.sand_text.proofs.Usual.{usual}
 
 abbrev cut_lines : List ℕ → List (List ℕ)
 cut_lines text = slice_split (λ b. b == 10) text

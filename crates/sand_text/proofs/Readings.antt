@@ -1,19 +1,7 @@
 -- What the survey of all tokens says of a text.
-use Rattle.std.proofs.Common.{◌≡◌, ℕ, ◌-◌, List, [], ◌∷◌, Bool, false, length, take, drop, refl, sym, ◌∙◌, arith, length-drop, Option, None, nat_le}
-use Rattle.std.specs.List.{position}
-use Rattle.std.specs.Prelude.{Ok, Err}
-use Rattle.std.proofs.lemmas.List.{length-take-le, take_all}
-use Rattle.std.specs.Option.{option_or}
-use Rattle.sand_model.specs.Grid.{Grid, sites}
-use Rattle.sand_text.specs.declared.fault.TextFault.{TextFault}
-use Rattle.sand_text.specs.declared.fault.TextFault.TheVariants.{TooLarge}
-use Rattle.sand_text.specs.declared.survey.Survey.{Survey}
-use Rattle.sand_text.specs.declared.tokens.Token.{Token}
-use Rattle.sand_text.specs.Tokens.{tokens, first_strange, first_large, numbers}
-use Rattle.sand_text.specs.Reading.{plain_tokens, unless_at}
-use Rattle.sand_text.specs.Surveys.{IsSurvey, IsShaped, IsStrangeAt, sites_of}
+use Rattle.sand_text.proofs.Common.{◌≡◌, ℕ, ◌-◌, List, [], ◌∷◌, Bool, false, length, take, drop, refl, sym, ◌∙◌, arith, length-drop, Option, None, nat_le, position, Ok, Err, length-take-le, take_all, option_or, Grid, sites, TextFault, TooLarge, Survey, Token, tokens, numbers, plain_tokens, unless_at, IsSurvey, IsShaped, IsStrangeAt, sites_of, usual}
+use Rattle.sand_text.specs.Tokens.{first_strange, first_large}
 use Rattle.sand_text.proofs.Shapes.{count_at_end}
-use Rattle.sand_text.proofs.Usual.{usual}
 
 -- ---- the tokens
 

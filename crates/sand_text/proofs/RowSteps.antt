@@ -1,9 +1,6 @@
 -- One step of writing a row or rows.
-use Rattle.std.proofs.Common.{◌≡◌, ℕ, ◌+◌, ◌*◌, ◌<◌, ◌≤◌, List, [], ◌∷◌, ◌++◌, length, take, drop, get_or, decimal, refl, ap, arith, length-drop}
-use Rattle.std.specs.Bool.{if◌then◌else◌, ◌==◌}
-use Rattle.std.proofs.lemmas.List.{at_drop_all, at_drop_more}
+use Rattle.sand_text.proofs.Common.{◌≡◌, ℕ, ◌+◌, ◌*◌, ◌<◌, ◌≤◌, List, [], ◌∷◌, ◌++◌, length, take, drop, get_or, decimal, refl, ap, arith, length-drop, if◌then◌else◌, ◌==◌, at_drop_all, at_drop_more, usual}
 use Rattle.sand_text.specs.Texts.{row_text, rows_text}
-use Rattle.sand_text.proofs.Usual.{usual}
 
 pub row_text-next : (ns : List ℕ) (i : ℕ) → i < length ns → row_text (drop i ns)
     ≡ decimal (get_or ns i 0) ++ (if i + 1 == length ns then 10 else 32) ∷ row_text (drop (i + 1) ns)

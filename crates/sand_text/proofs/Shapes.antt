@@ -1,25 +1,8 @@
 -- What the survey of a pile says of the pile at the front of the numbers.
-use Rattle.std.proofs.Common.{◌≡◌, ℕ, ◌+◌, ◌-◌, ◌*◌, ◌<◌, ◌≤◌, List, [], ◌∷◌, Bool, true, false, length, take, drop, get_or, ltb, refl, ◌∙◌, ap, arith, length-drop, sum, min}
-use Rattle.std.specs.Prelude.{◌⊎◌, Result, Ok, Err, IsTrue}
-use Rattle.std.specs.Bool.{if◌then◌else◌}
-use Rattle.std.proofs.Math.Nat.{mul-le-mul}
-use Rattle.std.proofs.lemmas.Bool.{and_parts}
-use Rattle.std.proofs.lemmas.Bool.Decides.{nat_tests}
-use Rattle.std.proofs.lemmas.List.{take-take}
-use Rattle.sand_model.specs.declared.shape.Edge.{Edge}
-use Rattle.sand_model.specs.declared.shape.Edge.TheVariants.{Open}
+use Rattle.sand_text.proofs.Common.{◌≡◌, ℕ, ◌+◌, ◌-◌, ◌*◌, ◌<◌, ◌≤◌, List, [], ◌∷◌, Bool, true, false, length, take, drop, get_or, ltb, refl, ◌∙◌, ap, arith, length-drop, sum, min, ◌⊎◌, Result, Ok, Err, IsTrue, if◌then◌else◌, mul-le-mul, and_parts, nat_tests, take-take, Edge, Open, Grid, grid_with_edge, is_side, sites, Text, Length, TooManyGrains, Survey, Token, Number, Letter, Strange, numbers, pile_at, filled, is_count, of_shape, IsSurvey, IsFull, IsEnd, IsShaped, edge_or, sites_of, most_grains, usual}
 use Rattle.sand_model.specs.declared.faults.ShapeFault.{ShapeFault}
 use Rattle.sand_model.specs.declared.faults.ShapeFault.TheVariants.{Side, Narrow}
-use Rattle.sand_model.specs.Grid.{Grid, grid_with_edge, is_side, sites}
-use Rattle.sand_text.specs.declared.fault.TextFault.TheVariants.{Text, Length, TooManyGrains}
-use Rattle.sand_text.specs.declared.survey.Survey.{Survey}
-use Rattle.sand_text.specs.declared.tokens.Token.{Token}
-use Rattle.sand_text.specs.declared.tokens.Token.TheVariants.{Number, Letter, Strange}
-use Rattle.sand_text.specs.Tokens.{edge_behind, numbers}
-use Rattle.sand_text.specs.Reading.{pile_at, filled, is_count, of_shape}
-use Rattle.sand_text.specs.Surveys.{IsSurvey, IsFull, IsEnd, IsShaped, edge_or, sites_of}
-use Rattle.sand_model.specs.Piles.{most_grains}
-use Rattle.sand_text.proofs.Usual.{usual}
+use Rattle.sand_text.specs.Tokens.{edge_behind}
 
 -- ---- the end of a survey
 

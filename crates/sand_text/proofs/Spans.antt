@@ -1,13 +1,7 @@
 -- One more byte of a token.
-use Rattle.std.proofs.Common.{◌≡◌, ◌≢◌, ℕ, ◌+◌, ◌*◌, ◌<◌, ◌≤◌, List, true, false, length, take, get_or, cond, eqb, sym, arith, eq-eqb}
-use Rattle.std.proofs.lemmas.List.{length-take, take_more}
-use Rattle.std.proofs.lemmas.List.Folds.{position_or_len_push}
-use Rattle.std.proofs.lemmas.List.Sums.{position_or_len_is}
+use Rattle.sand_text.proofs.Common.{◌≡◌, ◌≢◌, ℕ, ◌+◌, ◌*◌, ◌<◌, ◌≤◌, List, true, false, length, take, get_or, cond, eqb, sym, arith, eq-eqb, length-take, take_more, position_or_len_push, position_or_len_is, digits_value, is_digit, is_other, is_space, digits_len, token_len, capped, usual}
 use Rattle.std.proofs.lemmas.Int.Digits.{digits_value_more}
-use Rattle.std.specs.Str.Parse.{digits_value}
 use Rattle.std.specs.Char.{digit_value}
-use Rattle.sand_text.specs.Bytes.{is_digit, is_other, is_space, digits_len, token_len, capped}
-use Rattle.sand_text.proofs.Usual.{usual}
 
 -- a token ends at the first white space
 pub token_ends : (bs : List ℕ) (i : ℕ) → i ≤ length bs

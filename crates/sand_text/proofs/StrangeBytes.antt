@@ -1,18 +1,9 @@
 -- The first strange byte of a text, by its tokens and by its bytes.
-use Rattle.std.proofs.Common.{◌≡◌, ℕ, ◌+◌, ◌-◌, ◌<◌, List, [], ◌∷◌, ◌++◌, true, false, ◌==◌, length, get_or, Option, Some, None, refl, sym, ◌∙◌, ap, arith, inl, inr, length-append}
-use Rattle.std.specs.Prelude.{MatchOption, ◌⊎◌}
-use Rattle.std.specs.List.{All, list_any}
-use Rattle.std.specs.Str.Parse.{digits_value}
-use Rattle.std.proofs.lemmas.Bool.{cases_lt, cases_Bool, both_ways, and_right, cond_both, eqb-true}
-use Rattle.std.proofs.lemmas.List.{get_or_append_left, get_or-append_right, get_or-append-add}
-use Rattle.std.proofs.lemmas.List.Sums.{prefix_len-le-length, fails_before_first, passes_at_first}
-use Rattle.sand_text.specs.declared.tokens.Token.{Token}
-use Rattle.sand_text.specs.declared.tokens.Token.TheVariants.{Number, Letter, Strange}
-use Rattle.sand_text.specs.Bytes.{is_other, is_space, digits_len, capped}
-use Rattle.sand_text.specs.Tokens.{token_of, tokens_at, tokens, first_strange}
+use Rattle.sand_text.proofs.Common.{◌≡◌, ℕ, ◌+◌, ◌-◌, ◌<◌, List, [], ◌∷◌, ◌++◌, true, false, length, get_or, Option, Some, None, refl, sym, ◌∙◌, ap, arith, inl, inr, length-append, MatchOption, ◌⊎◌, All, list_any, digits_value, cases_lt, cases_Bool, both_ways, and_right, cond_both, eqb-true, get_or_append_left, get_or-append_right, get_or-append-add, prefix_len-le-length, fails_before_first, passes_at_first, Token, Number, Letter, Strange, is_other, is_space, digits_len, capped, tokens_at, tokens, usual}
+use Rattle.std.proofs.Common.{◌==◌}
+use Rattle.sand_text.specs.Tokens.{token_of, first_strange}
 use Rattle.sand_text.specs.Laws.{is_strange, OnlyLetters, StrangeByte}
 use Rattle.sand_text.proofs.Cuts.{IsToken, by_tokens}
-use Rattle.sand_text.proofs.Usual.{usual}
 
 -- ---- what a token is
 

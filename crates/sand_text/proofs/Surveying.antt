@@ -1,25 +1,8 @@
 -- One more token of a survey.
-use Rattle.std.proofs.Common.{◌≡◌, ℕ, suc, ◌+◌, ◌-◌, ◌<◌, ◌≤◌, nat_le, List, [], ◌∷◌, true, false, length, take, drop, get_or, eqb, ltb, refl, sym, ◌∙◌, ap, arith, inl, inr, Option, Some, None, Bool, not, nat_lt, sum, subst}
-use Rattle.std.specs.Bool.{if◌then◌else◌, ◌==◌}
-use Rattle.std.proofs.lemmas.Bool.{cases_lt, cases_eq}
-use Rattle.std.proofs.lemmas.Bool.Decides.{nat_tests}
-use Rattle.std.proofs.lemmas.List.{take_all, drop_all}
-use Rattle.std.specs.List.{All, filter, position}
-use Rattle.std.proofs.lemmas.List.Folds.{list_any_none}
-use Rattle.std.specs.Option.{option_or}
-use Rattle.sand_model.specs.declared.shape.Edge.{Edge}
-use Rattle.sand_model.specs.declared.shape.Edge.TheVariants.{Open, Cylinder}
-use Rattle.sand_text.specs.declared.fault.TextFault.TheVariants.{Text}
-use Rattle.sand_text.specs.declared.survey.Survey.{Survey}
-use Rattle.sand_text.specs.declared.tokens.Token.{Token}
-use Rattle.sand_text.specs.declared.tokens.Token.TheVariants.{Number, Letter, Strange}
-use Rattle.sand_text.specs.Bytes.{capped}
-use Rattle.sand_text.specs.Tokens.{first_strange, first_large, edge_behind, numbers}
-use Rattle.sand_text.specs.Surveys.{AgreeOnLetters, HasCounted, IsNoted, IsSurvey, IsStrangeAt, still_spared, sites_of, grains_with, if_no_site, noted}
+use Rattle.sand_text.proofs.Common.{◌≡◌, ℕ, suc, ◌+◌, ◌-◌, ◌<◌, ◌≤◌, nat_le, List, [], ◌∷◌, true, false, length, take, drop, get_or, eqb, ltb, refl, sym, ◌∙◌, ap, arith, inl, inr, Option, Some, None, Bool, not, nat_lt, sum, subst, if◌then◌else◌, ◌==◌, cases_lt, cases_eq, nat_tests, take_all, drop_all, All, filter, position, list_any_none, option_or, Edge, Open, Cylinder, Text, Survey, Token, Number, Letter, Strange, capped, numbers, AgreeOnLetters, HasCounted, IsNoted, IsSurvey, IsStrangeAt, still_spared, sites_of, grains_with, if_no_site, noted, most_grains, usual}
+use Rattle.sand_text.specs.Tokens.{first_strange, first_large, edge_behind}
 use Rattle.sand_text.proofs.Taking.{next_of}
 use Rattle.sand_text.proofs.Noting.{sum_push, no_site_push, noted-next, length-noted, noted-none}
-use Rattle.sand_model.specs.Piles.{most_grains}
-use Rattle.sand_text.proofs.Usual.{usual}
 
 large_next : (a : Option ℕ) (b : Bool) (start : ℕ) (later : Option ℕ)
     → option_or (option_or a (if b then Some start else None)) later ≡ option_or a (if b then Some start else later)

@@ -1,9 +1,7 @@
 -- One step of writing the lines of a table.
-use Rattle.std.proofs.Common.{arith, ◌≡◌, ℕ, ◌+◌, ◌<◌, ◌≤◌, List, [], ◌++◌, length, drop, get_or, append_assoc}
-use Rattle.std.proofs.lemmas.List.{at_drop_all, at_drop_more}
+use Rattle.sand_text.proofs.Common.{arith, ◌≡◌, ℕ, ◌+◌, ◌<◌, ◌≤◌, List, [], ◌++◌, length, drop, get_or, append_assoc, at_drop_all, at_drop_more, usual}
 use Rattle.sand_fronts.specs.declared.avalanche.Avalanche.{Avalanche}
 use Rattle.sand_text.specs.Tables.{entry_text, entries_text}
-use Rattle.sand_text.proofs.Usual.{usual}
 
 pub one_line : (es : List (ℕ × Avalanche)) (k : ℕ) (d : ℕ × Avalanche) (text more whole : List ℕ)
     → k < length es → more ≡ text ++ entry_text (get_or es k d)

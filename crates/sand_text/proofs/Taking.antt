@@ -1,7 +1,5 @@
 -- One more element taken from the front of a list.
-use Rattle.std.proofs.Common.{◌≡◌, ◌<◌, ℕ, suc, ◌+◌, List, [], ◌∷◌, ◌++◌, take, drop, length, get_or, ap, arith, length-drop, drop-cons}
-use Rattle.std.proofs.lemmas.List.{take_more}
-use Rattle.sand_text.proofs.Usual.{usual}
+use Rattle.sand_text.proofs.Common.{◌≡◌, ◌<◌, ℕ, suc, ◌+◌, List, [], ◌∷◌, ◌++◌, take, drop, length, get_or, ap, arith, length-drop, drop-cons, take_more, usual}
 
 pub next_of : (ns rest : List ℕ) (k v : ℕ) → drop k ns ≡ v ∷ rest
     → (k < length ns) × (get_or ns k 0 ≡ v) × (drop (k + 1) ns ≡ rest)

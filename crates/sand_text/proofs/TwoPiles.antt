@@ -1,26 +1,10 @@
 -- What the surveys of two piles say of a text with both.
-use Rattle.std.proofs.Common.{◌≡◌, ℕ, ◌+◌, ◌<◌, ◌≤◌, List, [], ◌∷◌, Bool, true, false, length, drop, eqb, not, refl, sym, ◌∙◌, ap, arith, inl, inr, Some, None, slice_index, ◌||◌, sum, subst}
-use Rattle.std.specs.Prelude.{Ok, Err}
-use Rattle.std.specs.Bool.{if◌then◌else◌, ◌==◌}
-use Rattle.std.specs.List.{filter}
-use Rattle.std.proofs.lemmas.Bool.Decides.{nat_tests}
-use Rattle.std.proofs.lemmas.List.{drop-drop}
-use Rattle.std.specs.Option.{option_or}
-use Rattle.sand_model.specs.declared.shape.Edge.{Edge}
-use Rattle.sand_model.specs.Grid.{Grid, sites}
-use Rattle.sand_text.specs.declared.fault.TextFault.{TextFault}
-use Rattle.sand_text.specs.declared.fault.TextFault.TheVariants.{TooLarge}
-use Rattle.sand_text.specs.declared.survey.Survey.{Survey}
-use Rattle.sand_text.specs.declared.tokens.Token.{Token}
-use Rattle.sand_text.specs.declared.tokens.Token.TheVariants.{Number, Letter, Strange}
-use Rattle.sand_text.specs.Bytes.{has_large}
-use Rattle.sand_text.specs.Tokens.{tokens, first_strange, edge_behind, numbers}
-use Rattle.sand_text.specs.Reading.{plain_tokens, pile_at, unless_at, second_letter, second_spared, two_letters, two_of, heights_on, behind_heights, heights_behind}
-use Rattle.sand_text.specs.Surveys.{IsSurvey, IsFull, IsFront, IsFirstStrange, IsShaped, still_spared}
+use Rattle.sand_text.proofs.Common.{◌≡◌, ℕ, ◌+◌, ◌<◌, ◌≤◌, List, [], ◌∷◌, Bool, true, false, length, drop, eqb, not, refl, sym, ◌∙◌, ap, arith, inl, inr, Some, None, slice_index, ◌||◌, sum, subst, Ok, Err, if◌then◌else◌, ◌==◌, filter, nat_tests, drop-drop, option_or, Edge, Grid, sites, TextFault, TooLarge, Survey, Token, Number, Letter, Strange, has_large, tokens, numbers, plain_tokens, pile_at, unless_at, second_letter, second_spared, two_letters, heights_on, behind_heights, heights_behind, IsSurvey, IsFull, IsFront, IsFirstStrange, IsShaped, still_spared, usual}
+use Rattle.sand_text.specs.Tokens.{first_strange, edge_behind}
+use Rattle.sand_text.specs.Reading.{two_of}
 use Rattle.sand_text.proofs.Shapes.{full_count, all_taken}
 use Rattle.sand_text.proofs.Readings.{large_is, one_each}
 use Rattle.sand_text.proofs.TwoWalks.{later_letter}
-use Rattle.sand_text.proofs.Usual.{usual}
 
 -- ---- counts from another number on
 

@@ -1,17 +1,7 @@
 -- The pass over the tokens of two piles.
-use Rattle.std.proofs.Common.{◌≡◌, ℕ, ◌+◌, ◌<◌, ◌≤◌, List, [], ◌∷◌, All, Bool, true, arith, Some, None, slice_index}
-use Rattle.std.specs.Bool.{if◌then◌else◌}
-use Rattle.std.proofs.lemmas.Bool.{and_parts, cases_lt}
-use Rattle.sand_model.specs.declared.shape.Edge.{Edge}
-use Rattle.sand_model.specs.declared.shape.Edge.TheVariants.{Open}
-use Rattle.sand_text.specs.declared.fault.TextFault.{TextFault}
-use Rattle.sand_text.specs.declared.fault.TextFault.TheVariants.{Text}
-use Rattle.sand_text.specs.declared.survey.Survey.{Survey}
-use Rattle.sand_text.specs.declared.tokens.Token.{Token}
-use Rattle.sand_text.specs.Tokens.{first_strange, numbers}
-use Rattle.sand_text.specs.Reading.{second_letter}
-use Rattle.sand_text.specs.Surveys.{IsSurvey, IsStrangeAt, IsFull, IsWithinPile, IsFirstStrange, barred_at, edge_with}
-use Rattle.sand_text.proofs.Usual.{usual}
+use Rattle.sand_text.proofs.Common.{◌≡◌, ℕ, ◌+◌, ◌<◌, ◌≤◌, List, [], ◌∷◌, Bool, true, arith, Some, None, slice_index, if◌then◌else◌, and_parts, cases_lt, Edge, Open, TextFault, Text, Survey, Token, numbers, second_letter, IsSurvey, IsStrangeAt, IsFull, IsWithinPile, IsFirstStrange, barred_at, edge_with, usual}
+use Rattle.std.proofs.Common.{All}
+use Rattle.sand_text.specs.Tokens.{first_strange}
 
 -- ---- the first pile
 

@@ -30,6 +30,7 @@ pub use piles::{pile_text, push_odometer, read_pile};
 pub use places::{column, line};
 pub use rows::{push_number, push_sum};
 pub use runs::{Sums, lab_text};
+pub use survey::{Survey, plain_survey};
 pub use tables::{table_head, table_text};
 pub use tokens::{Token, Tokens};
-pub use two_piles::read_two;
+pub use two_piles::{first_survey, read_two, second_survey};

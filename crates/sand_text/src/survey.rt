@@ -14,7 +14,7 @@ use sand_model::{Edge, GRAIN_LIMIT, SIDE_LIMIT, Shape};
 
 /// What the tokens of a pile's text say so far, none of them strange.
 #[derive(Clone, Copy)]
-pub(crate) struct Survey {
+pub struct Survey {
     /// How many numbers there are.
     pub count: usize,
     /// The first number.
@@ -58,7 +58,8 @@ impl Survey {
         }
     }
 
-    fn sites(&self) -> usize
+    /// Width times height.
+    pub fn sites(&self) -> usize
         ensures { result ≡ sites_of self.now }
     {
         self.width.saturating_mul(self.height) as usize
@@ -143,7 +144,7 @@ impl Survey {
     /// The shape of the surveyed pile, in a text of `end` bytes, or the first fault other than a strange byte or a
     /// number over the limit: fewer than two numbers (Text), Side, Narrow, Length, TooManyGrains. If the pile is not
     /// the last in its text, more numbers may follow than it has sites.
-    pub(crate) fn shape(&self, last: bool, end: usize) -> Result<Shape, TextFault>
+    pub fn shape(&self, last: bool, end: usize) -> Result<Shape, TextFault>
         ensures ok { IfOk result (λ g. (ws rest : List Token) → IsSurvey ws rest self.now → IsEnd last rest self.now
             → IsShaped last end ws self.now g) }
         ensures err { IfErr result (λ e. (ws rest : List Token) → IsSurvey ws rest self.now → IsEnd last rest self.now
@@ -164,7 +165,7 @@ impl Survey {
 }
 
 /// The survey of a whole text; else Text at the first strange byte, else TooLarge at the first number over the limit.
-pub(crate) fn plain_survey(text: &[u8]) -> Result<Survey, TextFault>
+pub fn plain_survey(text: &[u8]) -> Result<Survey, TextFault>
     ensures ok { IfOk result (IsSurvey (tokens text.now) []) }
     ensures plain { IfOk result (λ s. plain_tokens (2 ∷ []) text.now ≡ Ok (tokens text.now)) }
     ensures err { IfErr result (λ e. plain_tokens (2 ∷ []) text.now ≡ Err e) }

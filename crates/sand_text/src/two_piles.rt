@@ -22,8 +22,9 @@ use crate::tokens::{Token, Tokens};
 use sand_model::{Pile, Shape};
 use std::alloc::Global;
 
-// The survey of the first pile. The tokens after the pile are left.
-fn first_survey(tokens: &mut Tokens<'_>) -> Result<Survey, TextFault>
+/// The survey of the first pile, up to its last height or the end of the text; else Text at the first strange byte. The
+/// tokens after the pile are left.
+pub fn first_survey(tokens: &mut Tokens<'_>) -> Result<Survey, TextFault>
     ensures ok { IfOk result (IsFront (tokens_left tokens.old) (tokens_left tokens.new)) }
     ensures err { IfErr result (λ e. (over : Bool)
         → IsFirstStrange (2 ∷ second_letter over (numbers (tokens_left tokens.old))) (tokens_left tokens.old) e) }
@@ -48,8 +49,8 @@ fn barred_at(token: Token, text: &[u8]) -> Option<usize>
     }
 }
 
-// The survey of the second pile, which has all these tokens.
-fn second_survey(tokens: Tokens<'_>, text: &[u8]) -> Result<Survey, TextFault>
+/// The survey of the second pile of a text, which has all these tokens; else Text at the first strange byte.
+pub fn second_survey(tokens: Tokens<'_>, text: &[u8]) -> Result<Survey, TextFault>
     ensures ok { IfOk result (IsSurvey (tokens_left tokens.entry) []) }
     ensures plain { IfOk result (λ s. first_strange (second_spared text.now) 0 (tokens_left tokens.entry) ≡ None) }
     ensures err { IfErr result (IsFirstStrange (second_spared text.now) (tokens_left tokens.entry)) }

@@ -1,9 +1,5 @@
 -- Words as sets of places: what the operators on words do to each place.
-use Rattle.std.proofs.Common.{ℕ, ◌≡◌, ◌+◌, ◌-◌, ◌*◌, ◌/◌, ◌^◌, ◌<◌, ◌≤◌, arith}
-use Rattle.std.specs.Prelude.{bit_and, bit_or, bit_xor}
-use Rattle.std.specs.Int.{w64, bit_not}
-use Rattle.std.proofs.lemmas.Nat.{and_le_l, or_disjoint}
-use Rattle.std.proofs.lemmas.Nat.Bits.{bit_at-zero, same_from_bits_below, bit_at-lt, bit_at_and, bit_at_or, bit_at_xor, bit_at_not, shr_and_one}
+use Rattle.sand_tiles.proofs.Common.{ℕ, ◌≡◌, ◌+◌, ◌-◌, ◌*◌, ◌/◌, ◌^◌, ◌<◌, ◌≤◌, arith, bit_and, bit_or, bit_xor, w64, bit_not, and_le_l, or_disjoint, bit_at-zero, same_from_bits_below, bit_at-lt, bit_at_and, bit_at_or, bit_at_xor, bit_at_not, shr_and_one}
 use Rattle.sand_tiles.specs.Places.{bit}
 
 pub bit_le : (a p : ℕ) → bit a p ≤ 1

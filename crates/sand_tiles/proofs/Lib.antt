@@ -4,3 +4,4 @@ pub mod Around
 pub mod Rounds
 pub mod Ones
 pub mod Rows
+pub mod Common

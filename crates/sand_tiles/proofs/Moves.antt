@@ -1,11 +1,6 @@
 -- What the shifts of a word, and the masks of the first and the last column, do to each place.
-use Rattle.std.proofs.Common.{ℕ, eqb, ◌≡◌, ◌+◌, ◌-◌, ◌*◌, ◌/◌, ◌%◌, ◌^◌, ◌<◌, ◌≤◌, refl, sym, ◌∙◌, ap, arith}
-use Rattle.std.specs.Prelude.{bit_and}
-use Rattle.std.specs.Int.{bit_at}
-use Rattle.std.proofs.lemmas.Bool.{agree_below_at}
+use Rattle.sand_tiles.proofs.Common.{ℕ, eqb, ◌≡◌, ◌+◌, ◌-◌, ◌*◌, ◌/◌, ◌%◌, ◌^◌, ◌<◌, ◌≤◌, refl, sym, ◌∙◌, ap, arith, bit_and, bit_at, agree_below_at, pow_pos, shr-shr, shr_split, bit_at-zero, bit_at_above, bit_at_cat_low, bit_at_cat_high}
 use Rattle.std.proofs.lemmas.Bool.Decides.{nat_tests}
-use Rattle.std.proofs.lemmas.Nat.{pow_pos, shr-shr, shr_split}
-use Rattle.std.proofs.lemmas.Nat.Bits.{bit_at-zero, bit_at_above, bit_at_cat_low, bit_at_cat_high}
 use Rattle.sand_model.specs.Sand.{one_at}
 use Rattle.sand_tiles.specs.Places.{bit, north, south, west, east}
 use Rattle.sand_tiles.proofs.Bits.{at_place, both_le}

@@ -1,9 +1,6 @@
 -- The number of places in a set.
-use Rattle.std.proofs.Common.{ℕ, zero, suc, ◌≡◌, ◌+◌, ◌*◌, ◌/◌, ◌%◌, ◌^◌, ◌<◌, ◌≤◌, refl, ◌∙◌, ap, arith}
-use Rattle.std.specs.Prelude.{bit_and, count_ones}
+use Rattle.sand_tiles.proofs.Common.{ℕ, zero, suc, ◌≡◌, ◌+◌, ◌*◌, ◌/◌, ◌%◌, ◌^◌, ◌<◌, ◌≤◌, refl, ◌∙◌, ap, arith, bit_and, count_ones, ones_cat, mod-pow-add, pow_pos, bit_at-lt}
 use Rattle.std.specs.Int.Count.{ones, ones_step}
-use Rattle.std.proofs.lemmas.Nat.{ones_cat, mod-pow-add, pow_pos}
-use Rattle.std.proofs.lemmas.Nat.Bits.{bit_at-lt}
 use Rattle.sand_model.proofs.SumsBelow.{sum_below_same, sum_below-add, sum_below-scale}
 use Rattle.sand_model.proofs.Bounds.{at_most_all}
 use Rattle.sand_model.specs.Sand.{sum_below}

@@ -1,10 +1,6 @@
 -- The rounds of a visit to a tile.
-use Rattle.std.proofs.Common.{ℕ, ◌≡◌, ◌+◌, ◌*◌, ◌^◌, ◌<◌, ◌≤◌, refl, ◌∙◌, ap, arith}
-use Rattle.std.specs.Prelude.{bit_and, bit_or, bit_xor}
-use Rattle.std.specs.Int.{w64, bit_not}
-use Rattle.std.proofs.lemmas.Nat.{le_or_l}
+use Rattle.sand_tiles.proofs.Common.{ℕ, ◌≡◌, ◌+◌, ◌*◌, ◌^◌, ◌<◌, ◌≤◌, refl, ◌∙◌, ap, arith, bit_and, bit_or, bit_xor, w64, bit_not, le_or_l, bit, height, had, around, unused, since, IsReady, IsVisit, Calms, Visits}
 use Rattle.sand_tiles.specs.declared.tile.Tile.{Tile}
-use Rattle.sand_tiles.specs.Places.{bit, height, had, around, unused, since, IsReady, IsVisit, Calms, Visits}
 use Rattle.sand_tiles.proofs.Bits.{at_place, bit_none, bit_not_is, apart, apart_words}
 use Rattle.sand_tiles.proofs.Around.{around_sum, around_le, around_none}
 

@@ -1,8 +1,5 @@
 -- Four bits spread over a word, and the numbers of eight places read from two words.
-use Rattle.std.proofs.Common.{ℕ, zero, suc, true, eqb, ◌≡◌, ◌+◌, ◌*◌, ◌/◌, ◌%◌, ◌^◌, ◌<◌, [], ◌∷◌, refl, ◌∙◌, ap, arith}
-use Rattle.std.specs.Prelude.{bit_and, slice_index}
-use Rattle.std.proofs.lemmas.Bool.{agree_below_at, eqb-true}
-use Rattle.std.proofs.lemmas.Nat.{and_mask, shr-shr}
+use Rattle.sand_tiles.proofs.Common.{ℕ, zero, suc, true, eqb, ◌≡◌, ◌+◌, ◌*◌, ◌/◌, ◌%◌, ◌^◌, ◌<◌, [], ◌∷◌, refl, ◌∙◌, ap, arith, bit_and, slice_index, agree_below_at, eqb-true, and_mask, shr-shr}
 use Rattle.sand_tiles.specs.Places.{bit}
 use Rattle.sand_tiles.specs.Rows.{four}
 

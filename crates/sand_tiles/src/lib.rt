@@ -14,4 +14,4 @@ mod visiting;
 pub use counting::{NO_RECENT, Planes, Recent, count_set, size, spill, sum_over, times_at};
 pub use reading::{eight_heights, eight_times};
 pub use tile::{BARE, Tile, height_at, receive, set_of};
-pub use visiting::{next_to, visit, visit_pair};
+pub use visiting::{visit, visit_pair};

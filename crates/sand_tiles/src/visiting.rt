@@ -65,9 +65,9 @@ fn topple_front(tile: &mut Tile, front: u64) -> u64
     four
 }
 
-/// The places next to those of a set, inside the tile.
+// The places next to those of a set, inside the tile.
 #[inline(always)]
-pub fn next_to(set: u64) -> u64
+fn next_to(set: u64) -> u64
     ensures { (p : ℕ) → p < 64 → (bit result p ≤ around (bit set) p) × (around (bit set) p ≤ 4 * bit result p) }
 {
     let (south, north, east, west) = moved(set);

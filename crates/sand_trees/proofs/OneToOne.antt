@@ -1,6 +1,5 @@
 -- Each recurrent pile is the pile of exactly one tree, and each tree has exactly one pile.
-use Rattle.std.proofs.Common.{ℕ, ◌+◌, ◌-◌, arith}
-use Rattle.sand_model.specs.Grid.{Grid}
+use Rattle.sand_trees.proofs.Common.{ℕ, ◌+◌, ◌-◌, arith, Grid}
 use Rattle.sand_trees.specs.Trees.{edges_below, edges_passed, IsPileOfTree}
 use Rattle.sand_trees.specs.Laws.{EachPileHasOneTree, EachTreeHasOnePile, DepthsAreBurningTimes}
 use Rattle.sand_trees.proofs.Edges.{edges_at_most_four}

@@ -1,9 +1,5 @@
 -- The direction of each site, from its height and the depths around it.
-use Rattle.std.proofs.Common.{ℕ, zero, suc, cond, ◌≡◌, ◌+◌, ◌-◌, ◌<◌, ◌≤◌, ◌==◌, inl, inr, refl, ap, arith, count_by, List, [], ◌∷◌, length, take, get_or}
-use Rattle.std.proofs.lemmas.Bool.{cases_Bool, cases_lt}
-use Rattle.std.proofs.lemmas.Bool.Decides.{nat_tests}
-use Rattle.std.proofs.lemmas.List.Sums.{sum_by-cons}
-use Rattle.sand_model.specs.Grid.{Grid, sites}
+use Rattle.sand_trees.proofs.Common.{ℕ, zero, suc, cond, ◌≡◌, ◌+◌, ◌-◌, ◌<◌, ◌≤◌, ◌==◌, inl, inr, refl, ap, arith, count_by, List, [], ◌∷◌, length, take, get_or, cases_Bool, cases_lt, nat_tests, sum_by-cons, Grid, sites}
 use Rattle.sand_trees.specs.Trees.{depths_around, edges_below, IsTree, IsPileOfTree}
 use Rattle.sand_trees.specs.Walks.{AreLayers}
 use Rattle.sand_trees.proofs.Edges.{length_around, levels, around_parent, edges_below_none, passed_is}
@@ -46,6 +42,7 @@ pick_at a m [] = 0
 pick_at a zero (x ∷ xs) = cond (x == a) 0 (suc (pick_at a zero xs))
 pick_at a (suc m) (x ∷ xs) = suc (pick_at a (cond (x == a) m (suc m)) xs)
 
+-- the place is that of an a with m others before it, if there are more than m
 picked : (a : ℕ) (xs : List ℕ) (m : ℕ) → m < count_by (λ n. n == a) xs
     → (pick_at a m xs < length xs) × (get_or xs (pick_at a m xs) 0 ≡ a)
     × (count_by (λ n. n == a) (take (pick_at a m xs) xs) ≡ m)

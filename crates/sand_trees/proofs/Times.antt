@@ -1,14 +1,7 @@
 -- Depths in layers are burning times, and each recurrent pile has burning times.
-use Rattle.std.proofs.Common.{ℕ, zero, suc, Bool, true, false, not, cond, ltb, leb, ◌≡◌, ◌+◌, ◌-◌, ◌<◌, ◌≤◌, inl, inr, refl, ◌∙◌, ap, subst, arith, count_by}
-use Rattle.std.proofs.lemmas.Bool.{cases_Bool, cases_eq, cases_lt}
-use Rattle.std.proofs.lemmas.Bool.Decides.{nat_tests}
-use Rattle.sand_model.specs.Grid.{Grid, sites, neighbours}
-use Rattle.sand_model.specs.Sand.{sum_below}
-use Rattle.sand_model.proofs.Bounds.{at_most_sum_below}
-use Rattle.sand_model.proofs.Lists.{all_or_one}
+use Rattle.sand_trees.proofs.Common.{ℕ, zero, suc, Bool, true, false, not, cond, ltb, leb, ◌≡◌, ◌+◌, ◌-◌, ◌<◌, ◌≤◌, inl, inr, refl, ◌∙◌, ap, subst, arith, count_by, cases_Bool, cases_eq, cases_lt, nat_tests, Grid, sites, neighbours, sum_below, at_most_sum_below, all_or_one, IsRecurrent}
 use Rattle.sand_model.proofs.NeighboursInSets.{count_within}
 use Rattle.sand_certify.proofs.OneByOne.{without, one_by_one}
-use Rattle.sand_group.specs.Recurrence.{IsRecurrent}
 use Rattle.sand_group.specs.BurningTimes.{burns_within, is_time_within, AreBurningTimes}
 use Rattle.sand_group.proofs.BurningSteps.{count_same, burns_next}
 use Rattle.sand_trees.specs.Trees.{edges_below}
@@ -37,6 +30,7 @@ burns_by_edges g s d t some times i l =
     let next = burns_next g s t i in
     grind (arith, nat_tests)
 
+-- step by step, the sites of depth at most t are those that burn within t steps
 within : (g : Grid) (s d : ℕ → ℕ) → AreLayers g s d → ((j : ℕ) → j < sites g → 0 < d j) → (t i : ℕ) → i < sites g
     → burns_within g s t i ≡ is_time_within t (d i)
 unfolding burns_within
@@ -52,6 +46,7 @@ pub times_of_layers : (g : Grid) (s d : ℕ → ℕ) → AreLayers g s d → ((j
     → AreBurningTimes g s d
 times_of_layers g s d layers some = record { each = λ i l t. within g s d layers some t i l }
 
+-- a site that burns in a step may burn then, and might not before
 burns_at : (g : Grid) (s d : ℕ → ℕ) → AreBurningTimes g s d → ((j : ℕ) → j < sites g → 0 < d j) → (t i : ℕ) → i < sites g
     → d i ≡ suc t → 4 ≤ s i + edges_below g d i (suc t)
 burns_at g s d times some t i l e =
@@ -98,6 +93,7 @@ layers_of_times g s d times recurrent =
 
 -- ---- each recurrent pile has burning times
 
+-- what has burnt stays burnt
 one_more : (g : Grid) (s : ℕ → ℕ) (t i : ℕ) → i < sites g → burns_within g s t i ≡ true
     → burns_within g s (suc t) i ≡ true
 unfolding burns_within
@@ -125,6 +121,7 @@ abbrev BurnsOut : Grid → (ℕ → ℕ) → (ℕ → Bool) → Type 0
 BurnsOut g s set = (t : ℕ) → ((i : ℕ) → i < sites g → set i ≡ false → burns_within g s t i ≡ true)
     → (n : ℕ) × ((i : ℕ) → i < sites g → burns_within g s n i ≡ true)
 
+-- a site of the set that may burn first burns one step after the others outside it
 one_first : (g : Grid) (s : ℕ → ℕ) (set : ℕ → Bool) (i : ℕ) → i < sites g → set i ≡ true
     → count_by set (neighbours g i) ≤ s i → BurnsOut g s (without set i) → BurnsOut g s set
 one_first g s set i l here high rest t out = rest (suc t) (λ j m gone. elim (cases_eq i j) [
@@ -136,6 +133,7 @@ one_first g s set i l here high rest t out = rest (suc t) (λ j m gone. elim (ca
   | inr ne ↦ one_more g s t j m (out j m (grind (arith, nat_tests)))
 ])
 
+-- all sites of a recurrent pile burn within some steps, since they burn one by one
 all_within : (g : Grid) (s : ℕ → ℕ) → IsRecurrent g s
     → (n : ℕ) × ((i : ℕ) → i < sites g → burns_within g s n i ≡ true)
 all_within g s recurrent =

@@ -1,41 +1,91 @@
 //! The pile of a spanning tree, and the tree of a recurrent pile.
 
-ghost use Rattle.std.specs.Prelude.{◌≡◌, ◌≤◌, All, length, slice_index, IfOk};
-ghost use Rattle.sand_model.specs.Grid.{IsGrid, sites};
+ghost use Rattle.std.specs.Prelude.{◌≡◌, ◌<◌, ◌≤◌, ℕ, All, length, slice_index, IfOk, IfSome, IsTrue, MatchOption};
+ghost use Rattle.sand_model.specs.Grid.{IsGrid, is_inner, sites};
 ghost use Rattle.sand_model.specs.Piles.{height_of};
 ghost use Rattle.sand_group.specs.BurningTimes.{AreBurningTimes};
 ghost use Rattle.sand_trees.specs.Trees.{IsTree, IsPileOfTree, direction_of, depth_of};
-ghost use Rattle.sand_trees.specs.Walks.{AreLayers};
+ghost use Rattle.sand_trees.specs.Walks.{AreLayers, IsHeightAt};
 
-use crate::around::{count_below, count_passed, depths_around, pick};
+use crate::around::{count_below, depths_around, height_among, pick};
 use crate::tree::Tree;
 use sand_group::{Recurrent, burning_times};
 use sand_model::{Lattice, Pile};
 use std::alloc::{AllocError, Global};
 
-// The heights of the pile of a tree.
-fn heights_of(
-    alloc: Global,
+// Writes the heights of the sites from one on to another, by these directions and depths.
+fn write_some(
     lattice: &Lattice,
     directions: &[u8],
     depths: &[u32],
-) -> Result<Vec<u64>, AllocError>
+    heights: &mut [u64],
+    from: usize,
+    to: usize,
+)
     requires directions { length directions.now ≡ sites lattice.now }
     requires depths { length depths.now ≡ sites lattice.now }
-    requires tree { IsTree lattice.now (slice_index directions.now) (slice_index depths.now) }
-    ensures len { IfOk result (λ v. length v.items ≡ sites lattice.now) }
-    ensures pile { IfOk result (λ v. IsPileOfTree lattice.now (slice_index directions.now) (slice_index depths.now)
-        (slice_index v.items)) }
+    requires heights { length heights.old ≡ sites lattice.now }
+    requires inside { to ≤ sites lattice.now }
+    requires before { (k : ℕ) → k < from
+        → IsHeightAt lattice.now (slice_index directions.now) (slice_index depths.now) k (slice_index heights.old k) }
+    ensures { (k : ℕ) → k < to
+        → IsHeightAt lattice.now (slice_index directions.now) (slice_index depths.now) k (slice_index heights.new k) }
 {
-    let sites = lattice.shape().sites();
-    let mut heights = Vec::with_capacity(alloc, sites)?;
-    for site in 0..sites {
+    for site in from..to {
         let around = depths_around(lattice, depths, site);
-        let below = count_below(&around, depths[site]);
-        let passed = count_passed(&around, directions[site], depths[site] - 1);
-        heights.push(4 - below + passed)?;
+        heights[site] = height_among(&around, depths[site], directions[site]);
     }
-    Ok(heights)
+}
+
+// The same of inner sites.
+fn write_inner(
+    lattice: &Lattice,
+    directions: &[u8],
+    depths: &[u32],
+    heights: &mut [u64],
+    from: usize,
+    to: usize,
+)
+    requires directions { length directions.now ≡ sites lattice.now }
+    requires depths { length depths.now ≡ sites lattice.now }
+    requires heights { length heights.old ≡ sites lattice.now }
+    requires inside { to ≤ sites lattice.now }
+    requires inner { (k : ℕ) → from ≤ k → k < to → IsTrue (is_inner lattice.now k) }
+    requires before { (k : ℕ) → k < from
+        → IsHeightAt lattice.now (slice_index directions.now) (slice_index depths.now) k (slice_index heights.old k) }
+    ensures { (k : ℕ) → k < to
+        → IsHeightAt lattice.now (slice_index directions.now) (slice_index depths.now) k (slice_index heights.new k) }
+{
+    let width = lattice.shape().width();
+    for site in from..to {
+        let around = [
+            depths[site - width],
+            depths[site - 1],
+            depths[site + 1],
+            depths[site + width],
+        ];
+        heights[site] = height_among(&around, depths[site], directions[site]);
+    }
+}
+
+// Writes the heights of all sites. Most of them are inner, one after another in a row: then there is no branch at all.
+fn write_heights(lattice: &Lattice, directions: &[u8], depths: &[u32], heights: &mut [u64])
+    requires directions { length directions.now ≡ sites lattice.now }
+    requires depths { length depths.now ≡ sites lattice.now }
+    requires heights { length heights.old ≡ sites lattice.now }
+    ensures { (k : ℕ) → k < sites lattice.now
+        → IsHeightAt lattice.now (slice_index directions.now) (slice_index depths.now) k (slice_index heights.new k) }
+{
+    let shape = lattice.shape();
+    let width = shape.width();
+    let mut done = 0;
+    for row in 1..shape.height() - 1 {
+        let first = row * width;
+        write_some(lattice, directions, depths, heights, done, first + 1);
+        done = first + width - 1;
+        write_inner(lattice, directions, depths, heights, first + 1, done);
+    }
+    write_some(lattice, directions, depths, heights, done, shape.sites());
 }
 
 // The directions that give a pile its heights, for its burning times.
@@ -60,9 +110,36 @@ fn directions_of(
     for site in 0..sites {
         let around = depths_around(lattice, depths, site);
         let below = count_below(&around, depths[site]);
-        directions.push(pick(&around, depths[site] - 1, heights[site] + below - 4))?;
+        directions.push(pick(
+            &around,
+            depths[site] - 1,
+            heights[site] + u64::from(below) - 4,
+        ))?;
     }
     Ok(directions)
+}
+
+/// The pile of these directions and depths, or None if they are no tree. Fails only if an allocation fails.
+pub(crate) fn pile_on(
+    alloc: Global,
+    lattice: &Lattice,
+    directions: &[u8],
+    depths: &[u32],
+) -> Result<Option<Recurrent>, AllocError>
+    requires directions { length directions.now ≡ sites lattice.now }
+    requires depths { length depths.now ≡ sites lattice.now }
+    ensures grid { IfOk result (λ o. IfSome o (λ c. c.grid ≡ lattice.now)) }
+    ensures pile { IfOk result (λ o. MatchOption o
+        (¬ IsTree lattice.now (slice_index directions.now) (slice_index depths.now))
+        (λ c. IsPileOfTree lattice.now (slice_index directions.now) (slice_index depths.now) (height_of c))) }
+{
+    let mut heights = vec![in alloc; 0u64; lattice.shape().sites()]?;
+    write_heights(lattice, directions, depths, &mut heights);
+    let pile = Pile::from_vec(lattice.shape(), heights);
+    if !pile.is_stable() {
+        return Ok(None);
+    }
+    Ok(Some(Recurrent::known(pile)))
 }
 
 /// The pile of a tree, in time proportional to the number of sites. Fails only if an allocation fails.
@@ -71,10 +148,11 @@ pub fn pile_of_tree(alloc: Global, tree: &Tree) -> Result<Recurrent, AllocError>
     ensures pile { IfOk result
         (λ c. IsPileOfTree tree.now.grid (direction_of tree.now) (depth_of tree.now) (height_of c)) }
 {
-    let shape = tree.shape();
-    let lattice = Lattice::new(alloc, shape)?;
-    let heights = heights_of(alloc, &lattice, tree.directions(), tree.depths())?;
-    Ok(Recurrent::known(Pile::from_vec(shape, heights)))
+    let lattice = Lattice::new(alloc, tree.shape())?;
+    match pile_on(alloc, &lattice, tree.directions(), tree.depths())? {
+        Some(recurrent) => Ok(recurrent),
+        None => unreachable!(),
+    }
 }
 
 /// The tree of a recurrent pile, in time proportional to the number of sites: that with this pile. Fails only if an

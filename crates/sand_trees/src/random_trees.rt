@@ -14,9 +14,9 @@ fn has_directions(alloc: Global, shape: Shape, seed: u64, stream: u64, direction
 fn the_trees_of_three_streams(rt: HostRuntime) -> Result<(), Fail> {
     let most = u64::MAX;
     let wide = Shape::new(3, 2)?;
-    assert!(rt; has_directions(rt.alloc(), wide, 7, 1, &[1, 0, 3, 1, 2, 3]));
+    assert!(rt; has_directions(rt.alloc(), wide, 7, 1, &[2, 2, 0, 1, 1, 1]));
     let round = Shape::with_edge(3, 3, Edge::Cylinder)?;
-    assert!(rt; has_directions(rt.alloc(), round, 7, 2, &[3, 0, 2, 3, 1, 2, 3, 1, 3]));
+    assert!(rt; has_directions(rt.alloc(), round, 7, 2, &[2, 3, 0, 1, 3, 1, 1, 2, 3]));
     let last = Shape::new(4, 3)?;
     assert!(rt;
         has_directions(
@@ -24,7 +24,7 @@ fn the_trees_of_three_streams(rt: HostRuntime) -> Result<(), Fail> {
             last,
             most,
             most,
-            &[2, 0, 3, 0, 1, 0, 3, 1, 2, 0, 2, 3]
+            &[2, 0, 1, 0, 3, 3, 0, 2, 3, 3, 1, 1]
         )
     );
     Ok(())

@@ -1,3 +1,5 @@
+-- A burning order has as many sites as the grid (`order_fits`), and a forbidden set at most as many (`set_fits`): so
+-- there is a place for each site found.
 use Rattle.std.proofs.Common.{true, false, ap, arith, rules}
 use Rattle.sand_model.specs.Grid.{sites}
 use Rattle.sand_model.specs.Piles.{PileView, height_of}

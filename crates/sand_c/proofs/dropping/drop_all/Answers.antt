@@ -3,7 +3,7 @@ use Rattle.std.specs.Prelude.{Result, IfOk, OnOk}
 use Rattle.std.proofs.lemmas.List.{take_more}
 use Rattle.sand_model.specs.Piles.{PileView}
 use Rattle.sand_settle.specs.Avalanches.{Avalanche, IsAvalanche}
-use Rattle.sand_settle.specs.Drops.{OneView, grid_of_one_pile, topplings_between, IsAfter, Drops}
+use Rattle.sand_settle.specs.Drops.{DrivenView, grid_of_driven, topplings_between, IsAfter, Drops}
 use Rattle.sand_settle.specs.declared.faults.OneFault.{OneFault}
 use Rattle.sand_c.proofs.Rows.{rows_push, and_then}
 use Rattle.sand_c.proofs.dropping.drop_all.Goals as goal
@@ -12,12 +12,12 @@ pub loop-site-preserved : goal.loop-site-preserved
 loop-site-preserved c =
     let i : ℕ = c.loop-site.site-index in
     let site : ℕ = get_or c.args.drops.now i 0 in
-    let v : OneView = c.loop-site.pile in let w : OneView = c.drop_at.new.self in
+    let v : DrivenView = c.loop-site.pile in let w : DrivenView = c.drop_at.new.self in
     let more = take_more c.args.drops.now i 0 c.loop-site-test.true in
     let R : Type 0 = Result (ℕ × Avalanche) OneFault in
     let drops : Drops v site w = subst (λ (r : R). OnOk r (Drops v site w)) c.unwrap.ensures c.drop_at.ensures.drops in
-    let avalanche : IsAvalanche (grid_of_one_pile v) site (topplings_between v.settled w.settled) c.unwrap.result.1 =
-    subst (λ (r : R). IfOk r (λ q. IsAvalanche (grid_of_one_pile v) site (topplings_between v.settled w.settled) q.1)) c.unwrap.ensures c.drop_at.ensures.avalanche in
+    let avalanche : IsAvalanche (grid_of_driven v) site (topplings_between v.settled w.settled) c.unwrap.result.1 =
+    subst (λ (r : R). IfOk r (λ q. IsAvalanche (grid_of_driven v) site (topplings_between v.settled w.settled) q.1)) c.unwrap.ensures c.drop_at.ensures.avalanche in
     let after : (start : PileView) (history : List ℕ) → IsAfter start history v → IsAfter start (history ++ site ∷ []) w =
     subst (λ (r : R). OnOk r ((start : PileView) (history : List ℕ) → IsAfter start history v → IsAfter start (history ++ site ∷ []) w)) c.unwrap.ensures c.drop_at.ensures.after in
     let noted = rows_push c.args.pile.now v w (take i c.args.drops.now) c.loop-site.rows.items site c.unwrap.result.1 c.loop-site.invariant.rows drops avalanche in

@@ -1,34 +1,36 @@
-use Rattle.std.proofs.Common.{◌∙◌, ◌+◌, ◌*◌, ◌/◌, ◌<◌, ◌≤◌, ℕ, ap, arith, get_or, subst}
-use Rattle.sand_model.specs.Grid.{Grid, sites, distance}
+use Rattle.std.proofs.Common.{rules, ℕ, ◌-◌, ◌<◌, ◌≤◌, ◌∙◌, ap, arith, length, ⊎_elim}
+use Rattle.std.specs.Prelude.{slice_index}
+use Rattle.std.proofs.lemmas.Bool.{cases_lt}
+use Rattle.std.proofs.lemmas.List.{get_or-replicate}
+use Rattle.sand_model.specs.Grid.{sites}
+use Rattle.sand_settle.specs.Near.{AgreeFar}
 use Rattle.sand_settle.specs.Settling.{odometer_of}
-use Rattle.sand_c.proofs.Near.{in_row, rows_fit, one_row_more}
+use Rattle.sand_settle.specs.Drops.{grid_of_driven}
+use Rattle.sand_c.proofs.kept_odometer.take_topplings.Goals.{After-fill}
 use Rattle.sand_c.proofs.kept_odometer.take_topplings.Goals as goal
 
-pub loop-row-preserved : goal.loop-row-preserved
-loop-row-preserved c =
-    let g : Grid = c.args.pile.now.settled.pile.grid in
-    let y : ℕ = c.loop-row.row in
-    let first : ℕ = c.sites_near-first.result.0 in
-    let end : ℕ = c.sites_near-first.result.1 in
-    let now : ℕ → ℕ = odometer_of c.args.pile.now.settled in
-    let before : ℕ → ℕ = λ i. get_or c.args.kept.now i 0 in
-    let shape = c.shape-shape.ensures.value in
-    let width = ap (λ (s : Grid). s.width) shape in
-    let height = ap (λ (s : Grid). s.height) shape in
-    let fit = rows_fit g y (omega arith) in
-    let low = ap (λ w. y * w) width in
-    let high = ap (λ w. (y + 1) * w) width in
-    let inside = c.sites_near-first.ensures.inside in
-    let begins = inside.0 in let order = inside.1 in let ends = inside.2 in
-    let near : (i : ℕ) → y * g.width ≤ i → i < (y + 1) * g.width → before i < now i → (first ≤ i) × (i < end) =
-    λ i from to some.
-    subst (λ (s : Grid). distance s c.args.site i ≤ c.args.reach → (first ≤ i) × (i < end)) shape
-    (c.sites_near-first.ensures.near i (ap (λ w. i / w) width ∙ in_row g.width y i from to))
-    (c.requires.within i (let l : i < sites g = omega arith in l) some) in
-    record {
-      kept_each = omega arith;
-      topplings_each = omega arith;
-      taken = one_row_more (y * g.width) ((y + 1) * g.width) first end now before
-          c.loop-row.kept c.take_between.new.kept c.loop-row.topplings c.take_between.new.topplings
-          (omega arith) order (omega arith) (λ i l. c.requires.fewer i (omega arith)) near c.take_between.ensures.taken c.loop-row.invariant.taken;
-    }
+-- a site that is farther away has not toppled
+still : (c : After-fill) → AgreeFar (grid_of_driven c.args.pile.now) c.args.site c.args.reach
+    (slice_index c.args.kept.now) (odometer_of c.args.pile.now.settled)
+still c i l far = ⊎_elim
+    (λ (some : slice_index c.args.kept.now i < odometer_of c.args.pile.now.settled i).
+    absurd (omega (arith, c.requires.within i l some)))
+    (λ (none : odometer_of c.args.pile.now.settled i ≤ slice_index c.args.kept.now i).
+    omega (arith, c.requires.fewer i l))
+    (cases_lt (slice_index c.args.kept.now i) (odometer_of c.args.pile.now.settled i))
+
+pub update_odometer-requires-clause-far : goal.update_odometer-requires-clause-far
+update_odometer-requires-clause-far c = still (goal.at.update_odometer-requires-clause-far c).After-fill
+
+-- so its number is still 0
+none : (c : After-fill) → AgreeFar (grid_of_driven c.args.pile.now) c.args.site c.args.reach
+    (slice_index c.fill.new.self) (λ i. odometer_of c.args.pile.now.settled i - slice_index c.args.kept.now i)
+none c i l far = ap (λ xs. slice_index xs i) (c.fill.ensures.after (λ y e. e))
+    ∙ get_or-replicate {A = ℕ} (length c.args.topplings.now) i 0 0 (omega (arith, c.requires.topplings_each))
+    ∙ omega (arith, still c i l far)
+
+pub returns-clause-topplings : goal.returns-clause-topplings
+returns-clause-topplings c i l = c.write_near.ensures.written
+    (λ j. odometer_of c.args.pile.now.settled j - slice_index c.args.kept.now j) (λ j r less says. search rules)
+    (rw c.shape.ensures.value (none (goal.at.returns-clause-topplings c).After-fill)) i
+    (omega (arith, ap sites c.shape.ensures.value))

@@ -45,32 +45,32 @@ use Rattle.sand_c.proofs.reading.sandpile_drive_read.Statement.{statement}
 use Rattle.sand_c.proofs.reading.sandpile_drive_read.Code as code
 
 abbrev wraps : Body
-wraps = seq (assign (place 12 []) (rv_opd (copy (place 13 [])))) (assign (place 11 []) (aggregate (int w8 1 ∷ copy (place 12 []) ∷ [])))
+wraps = seq (assign (place 13 []) (rv_opd (copy (place 14 [])))) (assign (place 12 []) (aggregate (int w8 1 ∷ copy (place 13 []) ∷ [])))
 
 pub sandpile_drive_read_spec : {M : Type 1} → statement M
 sandpile_drive_read_spec 𝓤 𝓛 𝓜 𝓡 wired =
     let H = 𝓛.H in let 𝓣 = tables 𝓤 H 𝓜 𝓡 𝓡.env in let fn = code.function in
     let En = ended in let c = clauses 𝓛 𝓜.mem 𝓡.returns in
-    let Self : Slot 5 = RefOf (0 ∷ []) tt (plain (λ _. Seen.the_row)) (λ _. tt) in
-    let hs : Stays En.signature.params En.kept = (stay_dropped Self yes, (gave_slice (1 ∷ []) tt (plain (λ _. u64)), (gave_slice (2 ∷ []) tt (plain (λ _. u64)), (gave_ref (3 ∷ []) tt (plain (λ _. u64)), (gave_ref (4 ∷ []) tt (plain (λ _. u64)), tt))))) in
-    proved_at 𝓛 En hs c 𝓜 𝓡 (Goes-dropped 𝓛 5 Self yes (λ κs x f. refl), (Goes-gave_slice 𝓛 5 1 tt (plain (λ _. u64)), (Goes-gave_slice 𝓛 5 2 tt (plain (λ _. u64)), (Goes-gave_ref 𝓛 5 3 tt (plain (λ _. u64)), (Goes-gave_ref 𝓛 5 4 tt (plain (λ _. u64)), tt))))) #self fn (code.unfolded 𝓤 H 𝓜 𝓡 wired) (λ z are.
-    let κ = z.0.0.0 in let q = z.0.1.0 in let κ1 = z.0.0.1.0 in let q1 = z.0.1.1.0 in let κ2 = z.0.0.1.1.0 in let q2 = z.0.1.1.1.0 in let κ3 = z.0.0.1.1.1.0 in let q3 = z.0.1.1.1.1.0 in let κ4 = z.0.0.1.1.1.1.0 in let q4 = z.0.1.1.1.1.1.0 in
+    let Self : Slot 6 = RefOf (0 ∷ []) tt (plain (λ _. Seen.the_row)) (λ _. tt) in
+    let hs : Stays En.signature.params En.kept = (stay_dropped Self yes, (gave_slice (1 ∷ []) tt (plain (λ _. u64)), (gave_slice (2 ∷ []) tt (plain (λ _. u64)), (gave_ref (3 ∷ []) tt (plain (λ _. u64)), (gave_ref (4 ∷ []) tt (plain (λ _. u64)), (gave_ref (5 ∷ []) tt (plain (λ _. u64)), tt)))))) in
+    proved_at 𝓛 En hs c 𝓜 𝓡 (Goes-dropped 𝓛 6 Self yes (λ κs x f. refl), (Goes-gave_slice 𝓛 6 1 tt (plain (λ _. u64)), (Goes-gave_slice 𝓛 6 2 tt (plain (λ _. u64)), (Goes-gave_ref 𝓛 6 3 tt (plain (λ _. u64)), (Goes-gave_ref 𝓛 6 4 tt (plain (λ _. u64)), (Goes-gave_ref 𝓛 6 5 tt (plain (λ _. u64)), tt)))))) #self fn (code.unfolded 𝓤 H 𝓜 𝓡 wired) (λ z are.
+    let κ = z.0.0.0 in let q = z.0.1.0 in let κ1 = z.0.0.1.0 in let q1 = z.0.1.1.0 in let κ2 = z.0.0.1.1.0 in let q2 = z.0.1.1.1.0 in let κ3 = z.0.0.1.1.1.0 in let q3 = z.0.1.1.1.1.0 in let κ4 = z.0.0.1.1.1.1.0 in let q4 = z.0.1.1.1.1.1.0 in let κ5 = z.0.0.1.1.1.1.1.0 in let q5 = z.0.1.1.1.1.1.1.0 in
     let b = z.0.3.0.ref_ptr.0 in let o = z.0.3.0.ref_ptr.1 in let p = z.0.3.0.now.0 in let l = z.1 in
     let name = Seen.the_type.name in let Ref : RattleType = ShrRef (named 0) l.life Held in let Opt : RattleType = O.the_row Ref in
-    let Others : List RattleType = MutSlice (named 1) κ1 u64 ∷ MutSlice (named 2) κ2 u64 ∷ MutRef (named 3) κ3 u64 ∷ MutRef (named 4) κ4 u64 ∷ [] in let Rest = ‵ (flft κ1 q1) ⊛ ‵ (flft κ2 q2) ⊛ ‵ (flft κ3 q3) ⊛ ‵ (flft κ4 q4) ⊛ ‵ ftrue in let ran : List Val = vptr b o ∷ slice_val z.0.3.1.0.ref_ptr (length z.0.3.1.0.now) ∷ slice_val z.0.3.1.1.0.ref_ptr (length z.0.3.1.1.0.now) ∷ vptr z.0.3.1.1.1.0.ref_ptr.0 z.0.3.1.1.1.0.ref_ptr.1 ∷ vptr z.0.3.1.1.1.1.0.ref_ptr.0 z.0.3.1.1.1.1.0.ref_ptr.1 ∷ [] in
+    let Others : List RattleType = MutSlice (named 1) κ1 u64 ∷ MutSlice (named 2) κ2 u64 ∷ MutRef (named 3) κ3 u64 ∷ MutRef (named 4) κ4 u64 ∷ MutRef (named 5) κ5 u64 ∷ [] in let Rest = ‵ (flft κ1 q1) ⊛ ‵ (flft κ2 q2) ⊛ ‵ (flft κ3 q3) ⊛ ‵ (flft κ4 q4) ⊛ ‵ (flft κ5 q5) ⊛ ‵ ftrue in let ran : List Val = vptr b o ∷ slice_val z.0.3.1.0.ref_ptr (length z.0.3.1.0.now) ∷ slice_val z.0.3.1.1.0.ref_ptr (length z.0.3.1.1.0.now) ∷ vptr z.0.3.1.1.1.0.ref_ptr.0 z.0.3.1.1.1.0.ref_ptr.1 ∷ vptr z.0.3.1.1.1.1.0.ref_ptr.0 z.0.3.1.1.1.1.0.ref_ptr.1 ∷ vptr z.0.3.1.1.1.1.1.0.ref_ptr.0 z.0.3.1.1.1.1.1.0.ref_ptr.1 ∷ [] in
     let G = triple_of 𝓛 g.signature (g.spec 𝓛 𝓜.mem 𝓡.returns) in let does = met 𝓤 𝓛 𝓜 𝓡 (code.calls-sand_c::reading::read_in 𝓡.env wired) in
-    let Opt0 : Type 0 = Option Held.Denot in let Says : Opt0 → ℕ → List ℕ × (List ℕ × (ℕ × (ℕ × (Unit {0})))) → SProp 𝓤 = λ h r w. (c z.0.0 z.0.3).ensures (record l { held = h }) r (at_exit En z.0.0 z.0.3 (tt, w)) in
+    let Opt0 : Type 0 = Option Held.Denot in let Says : Opt0 → ℕ → List ℕ × (List ℕ × (ℕ × (ℕ × (ℕ × (Unit {0}))))) → SProp 𝓤 = λ h r w. (c z.0.0 z.0.3).ensures (record l { held = h }) r (at_exit En z.0.0 z.0.3 (tt, w)) in
     let Post : Val → SProp 𝓤 = (walk_of 𝓛 En hs c).post z in let Run : List Val → SProp 𝓤 = λ ws. WpFn 𝓤 H 𝓣.C 𝓣.Λ fn ws Post in
     qed 𝓛 (((‵ (flft κ q) ⊛ Rest) ⊛ ‵ (owns (types_at En.signature.params z.0.0) z.0.3 z.0.4)) ∷ raw ((c z.0.0 z.0.3).requires z.1) ∷ []) ∵
     split ! $ split ! $ move ! (3 ∷ []) $ use1 𝓛 (‵ (lent_from Held p l.held l.life) ⊛ ‵ (flft l.life l.share)) (id⊢ 𝓤 _) $ split ! $
     -- [what is lent; its token; the token of the handle; the other tokens; the arguments]
     move ! (4 ∷ []) $ fsplit ! $ move ! (1 ∷ []) $ use1 𝓛 (‵ (owns Others z.0.3.1 z.0.4.1)) (id⊢ 𝓤 _) $
-    rewrite ! 0 (λ (us : Valss Others). ‵ (owns Others z.0.3.1 us)) (λ i. (are.1.0.0.0 i, (are.1.1.0.0.0 i, (are.1.1.1.0.0 i, (are.1.1.1.1.0.0 i, tt))))) refl $
+    rewrite ! 0 (λ (us : Valss Others). ‵ (owns Others z.0.3.1 us)) (λ i. (are.1.0.0.0 i, (are.1.1.0.0.0 i, (are.1.1.1.0.0 i, (are.1.1.1.1.0.0 i, (are.1.1.1.1.1.0.0 i, tt)))))) refl $
     move ! (1 ∷ []) $ fsplit ! $ drop ! $ move ! (2 ∷ 0 ∷ 4 ∷ 1 ∷ 3 ∷ 5 ∷ []) $
     -- [what is lent; the handle; its token; the other arguments; the token of what is lent; the other tokens]
-    suffices ! (Run ran) (subst (λ (us : List Val). ent 𝓤 (Run ran) (Run us)) (sym (λ i. are.0.0 i ++ (are.1.0.0.0 i ++ (are.1.1.0.0.0 i ++ (are.1.1.1.0.0 i ++ (are.1.1.1.1.0.0 i ++ [])))))) (id⊢ 𝓤 (Run ran))) $
+    suffices ! (Run ran) (subst (λ (us : List Val). ent 𝓤 (Run ran) (Run us)) (sym (λ i. are.0.0 i ++ (are.1.0.0.0 i ++ (are.1.1.0.0.0 i ++ (are.1.1.1.0.0 i ++ (are.1.1.1.1.0.0 i ++ (are.1.1.1.1.1.0.0 i ++ []))))))) (id⊢ 𝓤 (Run ran))) $
     sees Held ! l.life p l.held
-    (λ at none. enter ! 𝓣.C 𝓣.Λ fn ran Post $ alloc_all ! (λ λs. pass_all ! refl ((tt, tt), ((tt, (tt, (record { fits = are.1.0.0.1.0 }, tt))), ((tt, (tt, (record { fits = are.1.1.0.0.1.0 }, tt))), ((tt, tt), ((tt, tt), tt))))) $ let Ev = env fn.locals λs in
+    (λ at none. enter ! 𝓣.C 𝓣.Λ fn ran Post $ alloc_all ! (λ λs. pass_all ! refl ((tt, tt), ((tt, (tt, (record { fits = are.1.0.0.1.0 }, tt))), ((tt, (tt, (record { fits = are.1.1.0.0.1.0 }, tt))), ((tt, tt), ((tt, tt), ((tt, tt), tt)))))) $ let Ev = env fn.locals λs in
     at_in ! tt p vnull (ap ptr_val at) b (o + 0) (shows_at name 𝓛 κ b o p) (λ q''.
     sets ! (of_opd ! (load ! (through ! refl (fld ! refl (stop !))) (look ! 1 refl))) refl (tt, record { fits = lit< tt }) $
     at_out ! tt p vnull (ap ptr_val at) b (o + 0) $
@@ -86,10 +86,11 @@ sandpile_drive_read_spec 𝓤 𝓛 𝓜 𝓡 wired =
     sets ! (agg ! (and_then ! (get ! refl) (and_then ! (get_in ! (fld ! refl (stop !)) (sub ! 1 refl (whole !))) (no_more !)))) refl (tt, (tt, (record { fits = are.1.1.0.0.1.0 }, tt))) $
     sets ! (addr ! (through ! refl (stop !))) refl (tt, tt) $
     sets ! (addr ! (through ! refl (stop !))) refl (tt, tt) $
+    sets ! (addr ! (through ! refl (stop !))) refl (tt, tt) $
     move ! (0 ∷ 3 ∷ []) $ fjoin ! $ move ! (3 ∷ 4 ∷ []) $ join ! $ join ! $ nothing ! $ move ! (1 ∷ 0 ∷ []) $
-    let y : G.Ghost = (((l.life, (κ1, (κ2, (κ3, (κ4, tt))))), (l.share, (q1, (q2, (q3, (q4, tt))))), tt, (None, z.0.3.1), (live 0 vnil ∷ [], (slice_val z.0.3.1.0.ref_ptr (length z.0.3.1.0.now) ∷ [], (slice_val z.0.3.1.1.0.ref_ptr (length z.0.3.1.1.0.now) ∷ [], (vptr z.0.3.1.1.1.0.ref_ptr.0 z.0.3.1.1.1.0.ref_ptr.1 ∷ [], (vptr z.0.3.1.1.1.1.0.ref_ptr.0 z.0.3.1.1.1.1.0.ref_ptr.1 ∷ [], tt)))))), tt) in
+    let y : G.Ghost = (((l.life, (κ1, (κ2, (κ3, (κ4, (κ5, tt)))))), (l.share, (q1, (q2, (q3, (q4, (q5, tt)))))), tt, (None, z.0.3.1), (live 0 vnil ∷ [], (slice_val z.0.3.1.0.ref_ptr (length z.0.3.1.0.now) ∷ [], (slice_val z.0.3.1.1.0.ref_ptr (length z.0.3.1.1.0.now) ∷ [], (vptr z.0.3.1.1.1.0.ref_ptr.0 z.0.3.1.1.1.0.ref_ptr.1 ∷ [], (vptr z.0.3.1.1.1.1.0.ref_ptr.0 z.0.3.1.1.1.1.0.ref_ptr.1 ∷ [], (vptr z.0.3.1.1.1.1.1.0.ref_ptr.0 z.0.3.1.1.1.1.1.0.ref_ptr.1 ∷ [], tt))))))), tt) in
     use2 𝓛 (raw (G.pre y)) (id⊢ 𝓤 _) $
-    calls_at ! (framed 𝓤 H 𝓜 𝓣) G does y (and_then ! (get ! refl) (and_then ! (get ! refl) (and_then ! (get ! refl) (and_then ! (get ! refl) (and_then ! (get ! refl) (no_more !)))))) (λ v.
+    calls_at ! (framed 𝓤 H 𝓜 𝓣) G does y (and_then ! (get ! refl) (and_then ! (get ! refl) (and_then ! (get ! refl) (and_then ! (get ! refl) (and_then ! (get ! refl) (and_then ! (get ! refl) (no_more !))))))) (λ v.
     use1 𝓛 (later (some (λ (r : ℕ). ((‵ (flft l.life l.share) ⊛ Rest) ⊛ ‵ (u32.own_val r (v ∷ []))) ⊛
     some (λ (ws : Lasts g.ended y.0.0 y.0.3). ‵ (lasts g.ended y.0.0 y.0.3 ws) ⊛ raw ((g.clauses 𝓛 𝓜.mem 𝓡.returns y.0.0 y.0.3).ensures tt r (at_exit g.ended y.0.0 y.0.3 ws)))))) (id⊢ 𝓤 _) $
     await ! tt $ pick ! (λ r. split ! $ move ! (1 ∷ []) $ pick ! (λ ws. split ! $ move ! (2 ∷ []) $ split ! $ move ! (1 ∷ []) $ fsplit ! $ feq_l ! (λ is_v. flt_l ! (λ fits.
@@ -97,12 +98,12 @@ sandpile_drive_read_spec 𝓤 𝓛 𝓜 𝓡 wired =
     -- [the tokens; what the references are at last; what the call promises; the token of the handle; the handle]
     move ! (1 ∷ []) $ fsplit ! $ drop ! $ fsplit ! $ fsplit ! $ fsplit ! $ move ! (1 ∷ []) $ feq_l ! (λ e1. fjoin ! $ move ! (1 ∷ []) $ fsplit ! $ fsplit ! $ fsplit ! $ move ! (1 ∷ []) $ feq_l ! (λ e2. fjoin ! $
     fjoin ! $ move ! (1 ∷ 0 ∷ []) $ fjoin ! $ nothing ! $ fjoin ! $ move ! (1 ∷ []) $
-    suffices ! _ (ends_at 𝓛 En hs c z (vint w32 r) r (tt, ws.1) (tt, (e1, (e2, (tt, (tt, tt)))))) $
+    suffices ! _ (ends_at 𝓛 En hs c z (vint w32 r) r (tt, ws.1) (tt, (e1, (e2, (tt, (tt, (tt, tt))))))) $
     split ! $ move ! (0 ∷ 3 ∷ []) $ join ! $ use1 𝓛 (raw (Says None r ws.1)) (id⊢ 𝓤 _) $ rewrite ! 0 (λ (h : Opt0). raw (Says h r ws.1)) (sym none) refl $
     flt_i ! r (2 ^ 32) fits $ feq_i ! (List Val) (vint w32 r ∷ []) (vint w32 r ∷ []) refl $ fjoin ! $ move ! (3 ∷ 0 ∷ []) $ join ! $
     move ! (3 ∷ 2 ∷ []) $ join ! $ join ! $ join ! $ keep ! (0 ∷ []) $ done !))))))))
     (λ wrong. absurd wrong))))
-    (λ b' o' x at one ok. enter ! 𝓣.C 𝓣.Λ fn ran Post $ alloc_all ! (λ λs. pass_all ! refl ((tt, tt), ((tt, (tt, (record { fits = are.1.0.0.1.0 }, tt))), ((tt, (tt, (record { fits = are.1.1.0.0.1.0 }, tt))), ((tt, tt), ((tt, tt), tt))))) $ let Ev = env fn.locals λs in
+    (λ b' o' x at one ok. enter ! 𝓣.C 𝓣.Λ fn ran Post $ alloc_all ! (λ λs. pass_all ! refl ((tt, tt), ((tt, (tt, (record { fits = are.1.0.0.1.0 }, tt))), ((tt, (tt, (record { fits = are.1.1.0.0.1.0 }, tt))), ((tt, tt), ((tt, tt), ((tt, tt), tt)))))) $ let Ev = env fn.locals λs in
     let seen' : Ref.Denot = record { ref_ptr = (b', o'); now = x } in let v' : Val = live 1 (vcons (vptr b' o') vnil) in
     let good : Good (layout Opt) v' = (tt, (record { fits = lit< tt }, (tt, tt))) in
     let Then = any_q (after_seq 𝓤 H (Wp 𝓤 H 𝓣.C 𝓣.Λ Ev (after 5 fn.body) (at_return 𝓤 H Ev Post)) (at_return 𝓤 H Ev Post)) in
@@ -123,10 +124,11 @@ sandpile_drive_read_spec 𝓤 𝓛 𝓜 𝓡 wired =
     sets ! (agg ! (and_then ! (get ! refl) (and_then ! (get_in ! (fld ! refl (stop !)) (sub ! 1 refl (whole !))) (no_more !)))) refl (tt, (tt, (record { fits = are.1.1.0.0.1.0 }, tt))) $
     sets ! (addr ! (through ! refl (stop !))) refl (tt, tt) $
     sets ! (addr ! (through ! refl (stop !))) refl (tt, tt) $
+    sets ! (addr ! (through ! refl (stop !))) refl (tt, tt) $
     move ! (0 ∷ 3 ∷ []) $ fjoin ! $ move ! (3 ∷ 4 ∷ []) $ join ! $ join ! $ nothing ! $ move ! (1 ∷ 0 ∷ []) $
-    let y : G.Ghost = (((l.life, (κ1, (κ2, (κ3, (κ4, tt))))), (l.share, (q1, (q2, (q3, (q4, tt))))), tt, (Some seen', z.0.3.1), (v' ∷ [], (slice_val z.0.3.1.0.ref_ptr (length z.0.3.1.0.now) ∷ [], (slice_val z.0.3.1.1.0.ref_ptr (length z.0.3.1.1.0.now) ∷ [], (vptr z.0.3.1.1.1.0.ref_ptr.0 z.0.3.1.1.1.0.ref_ptr.1 ∷ [], (vptr z.0.3.1.1.1.1.0.ref_ptr.0 z.0.3.1.1.1.1.0.ref_ptr.1 ∷ [], tt)))))), tt) in
+    let y : G.Ghost = (((l.life, (κ1, (κ2, (κ3, (κ4, (κ5, tt)))))), (l.share, (q1, (q2, (q3, (q4, (q5, tt)))))), tt, (Some seen', z.0.3.1), (v' ∷ [], (slice_val z.0.3.1.0.ref_ptr (length z.0.3.1.0.now) ∷ [], (slice_val z.0.3.1.1.0.ref_ptr (length z.0.3.1.1.0.now) ∷ [], (vptr z.0.3.1.1.1.0.ref_ptr.0 z.0.3.1.1.1.0.ref_ptr.1 ∷ [], (vptr z.0.3.1.1.1.1.0.ref_ptr.0 z.0.3.1.1.1.1.0.ref_ptr.1 ∷ [], (vptr z.0.3.1.1.1.1.1.0.ref_ptr.0 z.0.3.1.1.1.1.1.0.ref_ptr.1 ∷ [], tt))))))), tt) in
     use2 𝓛 (raw (G.pre y)) (id⊢ 𝓤 _) $
-    calls_at ! (framed 𝓤 H 𝓜 𝓣) G does y (and_then ! (get ! refl) (and_then ! (get ! refl) (and_then ! (get ! refl) (and_then ! (get ! refl) (and_then ! (get ! refl) (no_more !)))))) (λ v.
+    calls_at ! (framed 𝓤 H 𝓜 𝓣) G does y (and_then ! (get ! refl) (and_then ! (get ! refl) (and_then ! (get ! refl) (and_then ! (get ! refl) (and_then ! (get ! refl) (and_then ! (get ! refl) (no_more !))))))) (λ v.
     use1 𝓛 (later (some (λ (r : ℕ). ((‵ (flft l.life l.share) ⊛ Rest) ⊛ ‵ (u32.own_val r (v ∷ []))) ⊛
     some (λ (ws : Lasts g.ended y.0.0 y.0.3). ‵ (lasts g.ended y.0.0 y.0.3 ws) ⊛ raw ((g.clauses 𝓛 𝓜.mem 𝓡.returns y.0.0 y.0.3).ensures tt r (at_exit g.ended y.0.0 y.0.3 ws)))))) (id⊢ 𝓤 _) $
     await ! tt $ pick ! (λ r. split ! $ move ! (1 ∷ []) $ pick ! (λ ws. split ! $ move ! (2 ∷ []) $ split ! $ move ! (1 ∷ []) $ fsplit ! $ feq_l ! (λ is_v. flt_l ! (λ fits.
@@ -134,7 +136,7 @@ sandpile_drive_read_spec 𝓤 𝓛 𝓜 𝓡 wired =
     -- [the tokens; what the references are at last; what the call promises; the token of the handle; the handle]
     move ! (1 ∷ []) $ fsplit ! $ drop ! $ fsplit ! $ fsplit ! $ fsplit ! $ move ! (1 ∷ []) $ feq_l ! (λ e1. fjoin ! $ move ! (1 ∷ []) $ fsplit ! $ fsplit ! $ fsplit ! $ move ! (1 ∷ []) $ feq_l ! (λ e2. fjoin ! $
     fjoin ! $ move ! (1 ∷ 0 ∷ []) $ fjoin ! $ nothing ! $ fjoin ! $ move ! (1 ∷ []) $
-    suffices ! _ (ends_at 𝓛 En hs c z (vint w32 r) r (tt, ws.1) (tt, (e1, (e2, (tt, (tt, tt)))))) $
+    suffices ! _ (ends_at 𝓛 En hs c z (vint w32 r) r (tt, ws.1) (tt, (e1, (e2, (tt, (tt, (tt, tt))))))) $
     split ! $ move ! (0 ∷ 3 ∷ []) $ join ! $ use1 𝓛 (raw (Says (Some x) r ws.1)) (id⊢ 𝓤 _) $ rewrite ! 0 (λ (h : Opt0). raw (Says h r ws.1)) (sym one) refl $
     flt_i ! r (2 ^ 32) fits $ feq_i ! (List Val) (vint w32 r ∷ []) (vint w32 r ∷ []) refl $ fjoin ! $ move ! (3 ∷ 0 ∷ []) $ join ! $
     move ! (3 ∷ 2 ∷ []) $ join ! $ join ! $ join ! $ keep ! (0 ∷ []) $ done !))))))))))))

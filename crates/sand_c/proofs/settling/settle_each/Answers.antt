@@ -1,3 +1,5 @@
+-- Each pile is within the limit (`each_within`), so its copy settles in place. Its record is appended to those of the
+-- piles before it, and changes none of these (`one_more`).
 use Rattle.std.proofs.Common.{◌≡◌, ◌∙◌, ℕ, List, ap, subst, rules}
 use Rattle.std.specs.Prelude.{slice_index}
 use Rattle.std.specs.Fork.{slice_chunk}

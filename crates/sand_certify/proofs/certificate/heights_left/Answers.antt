@@ -1,3 +1,5 @@
+-- Each height that is pushed has passed the checks at its site (`IsLeftAt`). If all sites pass, the counts are the
+-- least: each site that has toppled burns at its turn, so no set of them is forbidden (`settled_if_left`).
 use Rattle.std.proofs.Common.{◌∙◌, ℕ, ◌+◌, ◌≤◌, ap, arith, get_or}
 use Rattle.sand_model.specs.Grid.{sites}
 use Rattle.sand_certify.specs.Certificate.{IsLeftAt}

@@ -1,3 +1,4 @@
+-- The flow into a site is the sum over its four places, and 0 from a place outside the grid (`flow_four`).
 use Rattle.std.proofs.Common.{arith, get_or}
 use Rattle.sand_model.proofs.Neighbours.{place_inside, flow_four}
 use Rattle.sand_certify.proofs.certificate.inflow.Goals as goal

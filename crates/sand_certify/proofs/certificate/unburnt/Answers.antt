@@ -1,3 +1,5 @@
+-- To count the neighbours that burn no earlier is to add up a flow of 1 from each of them (`count_is_flow`), and that
+-- is a sum over the four places, with 0 from a place outside the grid (`flow_four`).
 use Rattle.std.proofs.Common.{ℕ, Bool, arith, leb, get_or}
 use Rattle.sand_model.proofs.Neighbours.{place_inside, flow_four}
 use Rattle.sand_model.proofs.Flow.{count_is_flow, indicator}

@@ -1,3 +1,5 @@
+-- Each height that is pushed has passed the check at its site (`IsEmptiedAt`). If all sites pass, the counts take each
+-- of them to 0.
 use Rattle.std.proofs.Common.{◌∙◌, ℕ, ◌+◌, ap, arith, get_or}
 use Rattle.sand_certify.specs.Emptying.{IsEmptiedAt}
 use Rattle.sand_certify.proofs.Pushed.{pushed}

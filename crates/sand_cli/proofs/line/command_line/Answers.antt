@@ -1,5 +1,4 @@
-use Rattle.std.proofs.Common.{◌∙◌, ap, true}
-use Rattle.clap.specs.Simple.{Shape, app_of_fields, on_top}
+use Rattle.sand_cli.proofs.Common.{◌∙◌, ap, true, Shape, app_of_fields, on_top}
 use Rattle.sand_cli.specs.Line.{command_line}
 use Rattle.sand_cli.proofs.line.command_line.Goals as goal
 

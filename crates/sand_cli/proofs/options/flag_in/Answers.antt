@@ -1,6 +1,4 @@
-use Rattle.std.proofs.Common.{◌∙◌}
-use Rattle.clap.specs.Words.{found_of}
-use Rattle.clap.proofs.WalkLemmas.{one_text-rows}
+use Rattle.sand_cli.proofs.Common.{◌∙◌, found_of, one_text-rows}
 use Rattle.sand_cli.proofs.Reading.{flag_is}
 use Rattle.sand_cli.proofs.options.flag_in.Goals as goal
 

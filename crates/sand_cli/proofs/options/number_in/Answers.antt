@@ -1,7 +1,4 @@
-use Rattle.std.proofs.Common.{◌∙◌, arith, refl}
-use Rattle.std.specs.Str.Parse.{ExplainsUnsignedError, HasUnsignedDigitsIfOk, ParsesUnsigned}
-use Rattle.clap.specs.Words.{found_of}
-use Rattle.clap.proofs.WalkLemmas.{one_text-rows}
+use Rattle.sand_cli.proofs.Common.{◌∙◌, arith, refl, ExplainsUnsignedError, HasUnsignedDigitsIfOk, ParsesUnsigned, found_of, one_text-rows}
 use Rattle.sand_cli.proofs.Reading.{number_is}
 use Rattle.sand_cli.proofs.options.number_in.Goals as goal
 

@@ -1,7 +1,5 @@
-use Rattle.std.proofs.Common.{◌≡◌, ◌∙◌, None, Some, ap, subst, sym}
-use Rattle.std.specs.Prelude.{option_and_then}
+use Rattle.sand_cli.proofs.Common.{◌≡◌, ◌∙◌, None, Some, ap, subst, sym, option_and_then, IsWithin, conflict_of, task_named}
 use Rattle.std.proofs.lemmas.Result.{err_from_is_err_and}
-use Rattle.sand_cli.specs.Asked.{IsWithin, conflict_of, task_named}
 use Rattle.sand_cli.proofs.Spelled.{heeds_by_fault, heeds_by_task}
 use Rattle.sand_cli.proofs.Taken.{fails_by_kind, names, refused_ask_nothing, shows_help, taken, taken_are_sound, taken_ask, tells_nothing}
 use Rattle.sand_cli.specs.declared.fault.WordsFault.TheVariants.{Clash}

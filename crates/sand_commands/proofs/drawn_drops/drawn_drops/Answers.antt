@@ -1,9 +1,4 @@
-use Rattle.std.proofs.Common.{◌+◌, ◌<◌, arith, sum}
-use Rattle.std.specs.Prelude.{Some}
-use Rattle.std.proofs.lemmas.Result.{err_from_is_err_and}
-use Rattle.sand_model.specs.Piles.{most_grains}
-use Rattle.sand_commands.specs.Commands.{IsDropsFault}
-use Rattle.sand_commands.specs.DropsCommand.{IsDropsText}
+use Rattle.sand_commands.proofs.Common.{◌+◌, ◌<◌, arith, sum, Some, err_from_is_err_and, most_grains, IsDropsFault, IsDropsText}
 use Rattle.sand_commands.proofs.DrawnText.{ArePushed, all_taken, end_fails, last_fails, rows_fail}
 use Rattle.sand_commands.proofs.Drawing.{overfull, unread}
 use Rattle.sand_commands.proofs.Endings.{found_first}

@@ -1,17 +1,11 @@
-use Rattle.std.proofs.Common.{◌≡◌, ◌∙◌, ◌+◌, ◌-◌, ◌<◌, ◌++◌, ◌∷◌, [], ℕ, List, All, drop, length, refl, sym, ap, arith, subst, append_assoc}
-use Rattle.std.proofs.lemmas.Result.{err_from_is_err_and}
-use Rattle.sand_model.specs.Grid.{Grid, sites}
-use Rattle.sand_settle.specs.Drops.{grid_of_one_pile, IsAfter}
-use Rattle.sand_streams.specs.Streams.{Reading, site_at, stream_sites}
-use Rattle.sand_commands.specs.Faults.{of_stream}
-use Rattle.sand_commands.specs.Streaming.{AreAdded, BreaksInRows}
+use Rattle.sand_commands.proofs.Common.{◌≡◌, ◌∙◌, ◌+◌, ◌-◌, ◌<◌, ◌++◌, ◌∷◌, [], ℕ, List, All, drop, length, refl, sym, ap, arith, subst, append_assoc, err_from_is_err_and, Grid, sites, grid_of_driven, IsAfter, Reading, site_at, stream_sites, of_stream, AreAdded, BreaksInRows}
 use Rattle.sand_commands.proofs.DrawnSites.{drawn_inside, drawn_more, drawn_none, drawn_split, length-drawn}
 use Rattle.sand_commands.proofs.Streaming.{broke_in_row, none_added, row_added}
 use Rattle.sand_commands.proofs.drawn_drops.drop_drawn.Goals as goal
 
 pub loop-read-init : goal.loop-read-init
 loop-read-init g c =
-    let n : ℕ = sites (grid_of_one_pile c.args.pile.now) in
+    let n : ℕ = sites (grid_of_driven c.args.pile.now) in
     let from : ℕ = c.args.draw.from in
     let none = drawn_none n c.args.draw.seed c.args.draw.stream from in
     let shape = c.shape.ensures.value in
@@ -33,7 +27,7 @@ loop-read-init g c =
 pub returns-in_err-push_row-clause-fault : goal.returns-in_err-push_row-clause-fault
 returns-in_err-push_row-clause-fault g c =
     let p = err_from_is_err_and c.from_residual-in_err-push_row.result c.from_residual-in_err-push_row.ensures.1 in
-    let n : ℕ = sites (grid_of_one_pile c.args.pile.now) in
+    let n : ℕ = sites (grid_of_driven c.args.pile.now) in
     let seed : ℕ = c.args.draw.seed in
     let stream : ℕ = c.args.draw.stream in
     let from : ℕ = c.args.draw.from in
@@ -74,7 +68,7 @@ returns-in_err-push_row-clause-fault g c =
 
 pub loop-read-preserved : goal.loop-read-preserved
 loop-read-preserved g c =
-    let n : ℕ = sites (grid_of_one_pile c.args.pile.now) in
+    let n : ℕ = sites (grid_of_driven c.args.pile.now) in
     let seed : ℕ = c.args.draw.seed in
     let stream : ℕ = c.args.draw.stream in
     let from : ℕ = c.args.draw.from in

@@ -1,7 +1,5 @@
-use Rattle.std.proofs.Common.{◌++◌, codes}
-use Rattle.std.proofs.lemmas.Result.{IfErr-weaker, IfOk-weaker, err_from_is_err_and}
+use Rattle.sand_commands.proofs.Common.{◌++◌, codes, IfErr-weaker, IfOk-weaker, err_from_is_err_and, breaks_before, breaks_on, grows_on}
 use Rattle.sand_text.specs.Texts.{sum_line, text_of}
-use Rattle.sand_text.proofs.Growing.{breaks_before, breaks_on, grows_on}
 use Rattle.sand_commands.proofs.drawn_drops.push_pile_and_sums.Goals as goal
 
 pub returns-in_err-push_pile-clause-err : goal.returns-in_err-push_pile-clause-err

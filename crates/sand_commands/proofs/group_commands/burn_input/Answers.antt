@@ -1,5 +1,4 @@
-use Rattle.std.proofs.lemmas.Result.{IfOk-weaker}
-use Rattle.sand_model.specs.Piles.{height_of}
+use Rattle.sand_commands.proofs.Common.{IfOk-weaker, height_of}
 use Rattle.sand_group.proofs.WhyRefused.{stable}
 use Rattle.sand_commands.proofs.group_commands.burn_input.Goals as goal
 

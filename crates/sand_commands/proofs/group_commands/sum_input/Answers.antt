@@ -1,7 +1,4 @@
-use Rattle.std.proofs.Common.{sym, ◌∙◌, ap, inl, inr}
-use Rattle.std.proofs.lemmas.Result.{err_from_is_err_and, IfOk-weaker}
-use Rattle.sand_model.specs.Grid.{Grid, sites}
-use Rattle.sand_model.specs.Piles.{PileView}
+use Rattle.sand_commands.proofs.Common.{sym, ◌∙◌, ap, inl, inr, err_from_is_err_and, IfOk-weaker, Grid, sites, PileView}
 use Rattle.sand_group.proofs.WhyRefused.{refusal}
 use Rattle.sand_commands.proofs.Unfit.{pair_refused}
 use Rattle.sand_commands.proofs.group_commands.sum_input.Goals as goal

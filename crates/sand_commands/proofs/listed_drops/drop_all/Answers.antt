@@ -1,5 +1,4 @@
-use Rattle.std.proofs.Common.{◌≡◌, ◌∙◌, ◌+◌, ◌++◌, ◌∷◌, [], ℕ, List, if◌then◌else◌, ap, arith, length, take, get_or}
-use Rattle.std.proofs.lemmas.List.{length-take-le, take_more}
+use Rattle.sand_commands.proofs.Common.{◌≡◌, ◌∙◌, ◌+◌, ◌++◌, ◌∷◌, [], ℕ, List, if◌then◌else◌, ap, arith, length, take, get_or, length-take-le, take_more}
 use Rattle.sand_commands.proofs.Rows.{noted_push}
 use Rattle.sand_commands.proofs.listed_drops.drop_all.Goals as goal
 

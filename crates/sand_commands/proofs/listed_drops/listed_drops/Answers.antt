@@ -1,7 +1,4 @@
-use Rattle.std.proofs.Common.{◌∙◌, ◌<◌, ℕ, All, sym, subst}
-use Rattle.std.proofs.lemmas.Result.{IfOk-weaker}
-use Rattle.sand_model.specs.Grid.{Grid, sites}
-use Rattle.sand_commands.specs.DropsCommand.{AreNoted, AreRows}
+use Rattle.sand_commands.proofs.Common.{◌∙◌, ◌<◌, ℕ, All, sym, subst, IfOk-weaker, Grid, sites, AreNoted, AreRows}
 use Rattle.sand_commands.proofs.DropSites.{drops_inside}
 use Rattle.sand_commands.proofs.Rows.{noted_text}
 use Rattle.sand_commands.proofs.listed_drops.listed_drops.Goals as goal

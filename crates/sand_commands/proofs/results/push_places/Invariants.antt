@@ -1,5 +1,4 @@
-use Rattle.std.proofs.Common.{◌≡◌, ◌++◌, take}
-use Rattle.std.specs.List.{flat_map}
+use Rattle.sand_commands.proofs.Common.{◌≡◌, ◌++◌, take, flat_map}
 use Rattle.sand_commands.specs.Results.{place_text}
 use Rattle.sand_commands.proofs.results.push_places.Given as goal
 

@@ -1,11 +1,6 @@
-use Rattle.std.proofs.lemmas.Grind.{common_steps}
-use Rattle.std.proofs.Common.{arith, ◌≡◌, sym, subst}
-use Rattle.std.proofs.lemmas.Result.{err_from_is_err_and}
-use Rattle.std.specs.Prelude.{Option, Some}
+use Rattle.sand_commands.proofs.Common.{common_steps, arith, ◌≡◌, sym, subst, err_from_is_err_and, Option, Some, Draw, IsFaultWithoutLab, IsTextWithoutLab, WorkEnds}
 use Rattle.std.specs.Result.{IfErr}
-use Rattle.sand_cli.specs.declared.task.Draw.{Draw}
 use Rattle.sand_cli.specs.declared.task.Task.TheVariants.{Drops}
-use Rattle.sand_commands.specs.Commands.{IsFaultWithoutLab, IsTextWithoutLab, WorkEnds}
 use Rattle.sand_commands.proofs.Endings.{found_first}
 use Rattle.sand_commands.proofs.tasks.carry_out.Goals as goal
 

@@ -1,7 +1,4 @@
-use Rattle.std.proofs.lemmas.Grind.{common_steps}
-use Rattle.std.proofs.Common.{arith}
-use Rattle.std.proofs.lemmas.Result.{IfErr-weaker, err_from_is_err_and, on_ok_weaker}
-use Rattle.sand_commands.proofs.Endings.{found_first}
+use Rattle.sand_desk.proofs.Common.{common_steps, arith, IfErr-weaker, err_from_is_err_and, on_ok_weaker, found_first}
 use Rattle.sand_desk.proofs.WithoutLab.{ends, written}
 use Rattle.sand_desk.proofs.commands.carry_out.Goals as goal
 

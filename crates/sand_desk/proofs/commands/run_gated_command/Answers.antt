@@ -1,9 +1,4 @@
-use Rattle.std.proofs.lemmas.Grind.{common_steps}
-use Rattle.std.proofs.Common.{arith}
-use Rattle.std.specs.Prelude.{map, string_bytes}
-use Rattle.std.proofs.lemmas.Result.{IfErr-weaker, err_from_is_err_and}
-use Rattle.sand_desk.specs.Commands.{Call, IsRead, call_of}
-use Rattle.sand_commands.proofs.Endings.{keeps}
+use Rattle.sand_desk.proofs.Common.{common_steps, arith, map, string_bytes, IfErr-weaker, err_from_is_err_and, Call, IsRead, call_of, keeps}
 use Rattle.sand_desk.proofs.Endings.{reading_ends, work_ends, work_no_help}
 use Rattle.sand_desk.proofs.commands.run_gated_command.Goals as goal
 

@@ -1,6 +1,4 @@
-use Rattle.std.proofs.Common.{◌≡◌, ◌∙◌, map, string_bytes, sym}
-use Rattle.std.proofs.lemmas.Result.{IfErr-weaker}
-use Rattle.sand_commands.specs.Faults.{status_of}
+use Rattle.sand_desk.proofs.Common.{◌≡◌, ◌∙◌, map, string_bytes, sym, IfErr-weaker, status_of}
 use Rattle.sand_desk.proofs.Helped.{unhelped}
 use Rattle.sand_desk.proofs.helping.run_or_help.Goals as goal
 

@@ -1,7 +1,5 @@
-use Rattle.std.proofs.Common.{arith}
-use Rattle.sand_text.specs.Runs.{journal_line}
+use Rattle.sand_desk.proofs.Common.{arith, journal_line, dropper_and_site}
 use Rattle.sand_text.proofs.NumberedLines.{no_line, one_line_more, all_lines_of}
-use Rattle.sand_desk.specs.Laboratory.{dropper_and_site}
 use Rattle.sand_desk.proofs.laboratory.push_journal.Goals as goal
 
 pub loop-number-init : goal.loop-number-init

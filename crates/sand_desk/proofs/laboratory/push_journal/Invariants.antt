@@ -1,6 +1,4 @@
-use Rattle.std.proofs.Common.{◌≡◌, ◌++◌, take}
-use Rattle.sand_text.specs.Runs.{lines_from, journal_line}
-use Rattle.sand_desk.specs.Laboratory.{dropper_and_site}
+use Rattle.sand_desk.proofs.Common.{◌≡◌, ◌++◌, take, lines_from, journal_line, dropper_and_site}
 use Rattle.sand_desk.proofs.laboratory.push_journal.Given as goal
 
 abbrev pub invariant-loop-number : goal.invariant-loop-number

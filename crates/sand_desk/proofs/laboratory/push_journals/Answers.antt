@@ -1,10 +1,6 @@
-use Rattle.std.proofs.Common.{rules, ℕ, List, [], ◌++◌, ◌∙◌, ap, codes, map, append_assoc}
-use Rattle.sand_text.specs.Runs.{journal_lines, lines_from}
+use Rattle.sand_desk.proofs.Common.{rules, ℕ, List, [], ◌++◌, ◌∙◌, ap, codes, map, append_assoc, journal_lines, lines_from, None, SheetView, dropper_and_site}
 use Rattle.sand_text.proofs.NumberedLines.{no_line, one_line_more, all_lines_of}
-use Rattle.std.specs.Prelude.{None}
 use Rattle.sand_lab.specs.declared.journal.Entry.{Entry}
-use Rattle.sand_lab.specs.Reports.{SheetView}
-use Rattle.sand_desk.specs.Laboratory.{dropper_and_site}
 use Rattle.sand_desk.proofs.laboratory.push_journals.Goals as goal
 
 abbrev drops_of : SheetView → List (ℕ × ℕ)

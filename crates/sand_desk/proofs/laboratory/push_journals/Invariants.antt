@@ -1,6 +1,4 @@
-use Rattle.std.proofs.Common.{◌≡◌, ◌++◌, take, codes, map}
-use Rattle.sand_text.specs.Runs.{lines_from, journal_lines}
-use Rattle.sand_desk.specs.Laboratory.{dropper_and_site}
+use Rattle.sand_desk.proofs.Common.{◌≡◌, ◌++◌, take, codes, map, lines_from, journal_lines, dropper_and_site}
 use Rattle.sand_desk.proofs.laboratory.push_journals.Given as goal
 
 abbrev pub invariant-loop-epoch : goal.invariant-loop-epoch

@@ -1,5 +1,4 @@
-use Rattle.std.proofs.Common.{◌≡◌, ◌≤◌, length, map, take, vec_len, vec_capacity}
-use Rattle.sand_desk.specs.Laboratory.{sums_of}
+use Rattle.sand_desk.proofs.Common.{◌≡◌, ◌≤◌, length, map, take, vec_len, vec_capacity, sums_of}
 use Rattle.sand_desk.proofs.laboratory.sums_of_all.Given as goal
 
 abbrev pub invariant-loop-closed : goal.invariant-loop-closed

@@ -1,9 +1,5 @@
-use Rattle.std.proofs.Common.{ℕ, rules, ◌≡◌, ◌<◌, arith}
-use Rattle.sand_model.specs.Grid.{missing}
-use Rattle.sand_tiles.specs.declared.tile.Tile.{Tile}
-use Rattle.sand_tiles.specs.Places.{number}
-use Rattle.sand_tiles.proofs.Bits.{bit_none}
-use Rattle.sand_fronts.specs.Tiling.{on_tiles}
+-- Past the end of the list a tile reads as blank, and there is no site in it (`no_tile_on`).
+use Rattle.sand_fronts.proofs.Common.{ℕ, rules, ◌≡◌, ◌<◌, arith, missing, Tile, number, bit_none, on_tiles}
 use Rattle.sand_fronts.proofs.Gained.{blank}
 use Rattle.sand_fronts.proofs.Filled.{entry_more, entry_each, no_tile_on}
 use Rattle.sand_fronts.proofs.board.all_outside.Goals as goal

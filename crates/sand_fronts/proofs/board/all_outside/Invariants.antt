@@ -1,8 +1,4 @@
-use Rattle.std.proofs.Common.{ℕ, ◌≡◌, ◌<◌, vec_len, vec_capacity}
-use Rattle.sand_model.specs.Grid.{missing}
-use Rattle.sand_tiles.specs.Places.{number}
-use Rattle.sand_fronts.specs.Tiling.{tiles, on_tiles}
-use Rattle.sand_fronts.specs.Waves.{tile_at}
+use Rattle.sand_fronts.proofs.Common.{ℕ, ◌≡◌, ◌<◌, vec_len, vec_capacity, missing, number, tiles, on_tiles, tile_at}
 use Rattle.sand_fronts.proofs.board.all_outside.Given as goal
 
 abbrev pub invariant-loop-k : goal.invariant-loop-k

@@ -1,6 +1,6 @@
-use Rattle.std.proofs.Common.{rules, ◌+◌, ◌*◌, arith}
-use Rattle.sand_model.specs.Grid.{missing}
-use Rattle.sand_tiles.proofs.Bits.{bit_none}
+-- Around an inner tile's places nothing is outside the grid (`inner_missing`). Elsewhere at most four places around a
+-- site are outside, a number that a tile can hold (`few_missing`).
+use Rattle.sand_fronts.proofs.Common.{rules, ◌+◌, ◌*◌, arith, missing, bit_none}
 use Rattle.sand_fronts.proofs.NewPiles.{few_missing, inner_missing}
 use Rattle.sand_fronts.proofs.board.outside_in.Goals as goal
 

@@ -1,3 +1,4 @@
+-- A tile without a list has nothing spilled, so a list of zeros changes nothing (`one_list`).
 use Rattle.std.proofs.Common.{rules}
 use Rattle.sand_fronts.proofs.Counted.{one_list}
 use Rattle.sand_fronts.proofs.counts.with_lists.Goals as goal

@@ -1,5 +1,4 @@
-use Rattle.std.proofs.Common.{ℕ, ◌≡◌, ◌<◌, vec_len, vec_capacity}
-use Rattle.sand_fronts.specs.Counting.{spilled_at}
+use Rattle.sand_fronts.proofs.Common.{ℕ, ◌≡◌, ◌<◌, vec_len, vec_capacity, spilled_at}
 use Rattle.sand_fronts.proofs.counts.with_lists.Given as goal
 
 abbrev pub invariant-loop : goal.invariant-loop

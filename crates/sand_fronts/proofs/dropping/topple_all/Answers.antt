@@ -1,9 +1,7 @@
-use Rattle.std.proofs.Common.{◌≡◌, ◌∙◌, refl, ap, arith}
-use Rattle.sand_model.specs.IndexLists.{ListView}
-use Rattle.sand_tiles.proofs.Bits.{bit_le}
-use Rattle.sand_fronts.specs.Waves.{tile_at}
-use Rattle.sand_fronts.specs.Drops.{heights_on}
-use Rattle.sand_fronts.specs.Boards.{tiles_of, counts_of, marks_of}
+-- After each wave the growth of the counts is a legal sequence of topplings, and the pile is lighter (`waves_more`).
+-- Unless the site has 4 again, all sites are then below 4, and the growth is the least odometer (`waves_end`). The
+-- weight also bounds all sums (`few_yet`).
+use Rattle.sand_fronts.proofs.Common.{◌≡◌, ◌∙◌, refl, ap, arith, ListView, bit_le, tile_at, heights_on, tiles_of, counts_of, marks_of}
 use Rattle.sand_fronts.proofs.Boards.{tile_inside}
 use Rattle.sand_fronts.proofs.OnTiles.{place_below}
 use Rattle.sand_fronts.proofs.Counted.{marked_none, marked_more}
@@ -43,6 +41,7 @@ waves-init c =
       lost = none_lost g counts;
     }
 
+-- the wave, counted
 wave : (c : After-count_wave-wave) → OneMore c.args.board.now.shape c.args.drop.site (tiles_of c.args.sand.now)
     (tiles_of c.waves.sand) c.topple_wave.new.self.tiles.items c.count_wave-wave.new.sand.tiles.items
     (counts_of c.args.counts.now) c.waves.counts c.count_wave-wave.new.self

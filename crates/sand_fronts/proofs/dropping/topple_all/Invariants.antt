@@ -1,9 +1,4 @@
-use Rattle.std.proofs.Common.{◌≡◌, ◌≤◌}
-use Rattle.sand_model.specs.Sand.{topplings, lost, weight}
-use Rattle.sand_fronts.specs.Waves.{heights_before}
-use Rattle.sand_fronts.specs.WaveSizes.{HasWaves}
-use Rattle.sand_fronts.specs.Marking.{AreMarked}
-use Rattle.sand_fronts.specs.Boards.{tiles_of, counts_of, marks_of, grown, IsSand, AreCounts}
+use Rattle.sand_fronts.proofs.Common.{◌≡◌, ◌≤◌, topplings, lost, weight, heights_before, HasWaves, AreMarked, tiles_of, counts_of, marks_of, grown, IsSand, AreCounts}
 use Rattle.sand_fronts.proofs.ManyWaves.{heights_now, AreWaves}
 use Rattle.sand_fronts.proofs.dropping.topple_all.Given as goal
 

@@ -1,11 +1,8 @@
-use Rattle.std.proofs.Common.{inr, refl, ◌∙◌, ap, arith, length}
-use Rattle.std.specs.Prelude.{slice_index}
-use Rattle.std.proofs.lemmas.Bool.{eq-eqb, ne_eqb}
-use Rattle.sand_model.specs.Sand.{sum_below}
-use Rattle.sand_tiles.specs.Places.{bit}
+-- Of the sets that are no longer marked all places have been read (`SetsRead`). With an empty list no set is left
+-- (`all_empty`), so all have been.
+use Rattle.sand_fronts.proofs.Common.{inr, refl, ◌∙◌, ap, arith, length, slice_index, eq-eqb, ne_eqb, sum_below, bit, bit_none}
 use Rattle.sand_fronts.proofs.Counted.{few_in_sets, set_less}
 use Rattle.sand_fronts.proofs.Marked.{all_empty}
-use Rattle.sand_tiles.proofs.Bits.{bit_none}
 use Rattle.sand_fronts.proofs.Reached.{sets_more}
 use Rattle.sand_fronts.proofs.extent.take_all.Goals as goal
 

@@ -1,6 +1,4 @@
-use Rattle.std.proofs.Common.{◌≡◌, ◌+◌, length}
-use Rattle.std.specs.Prelude.{slice_index}
-use Rattle.sand_fronts.specs.Marking.{in_sets}
+use Rattle.sand_fronts.proofs.Common.{◌≡◌, ◌+◌, length, slice_index, in_sets}
 use Rattle.sand_fronts.specs.Reaching.{spot_of}
 use Rattle.sand_fronts.proofs.Reached.{SetsRead}
 use Rattle.sand_fronts.proofs.extent.take_all.Given as goal

@@ -1,3 +1,5 @@
+-- The column and the row of a place that is a site are in the grid (`spot_in`), so the function may be called with
+-- them.
 use Rattle.std.proofs.Common.{◌∙◌, sym}
 use Rattle.sand_fronts.proofs.Filled.{spot_in, site_number, no_number}
 use Rattle.sand_fronts.proofs.filling.number_at.Goals as goal

@@ -1,5 +1,6 @@
-use Rattle.std.proofs.Common.{◌≡◌, ◌+◌, ◌∙◌, ap, refl, arith}
-use Rattle.sand_fronts.specs.Tiling.{on_tiles}
+-- The places from the loop's on are in the tile, moved to its beginning (`so_far`), and each step puts the place
+-- before them in front (`place_more`). With the first place, each is where it belongs.
+use Rattle.sand_fronts.proofs.Common.{◌≡◌, ◌+◌, ◌∙◌, ap, refl, arith, on_tiles}
 use Rattle.sand_fronts.proofs.Filled.{place_more}
 use Rattle.sand_fronts.proofs.filling.tile_of.Goals as goal
 

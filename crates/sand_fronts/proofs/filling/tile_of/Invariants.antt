@@ -1,7 +1,4 @@
-use Rattle.std.proofs.Common.{ℕ, ◌≡◌, ◌+◌, ◌<◌}
-use Rattle.sand_tiles.specs.Places.{number}
-use Rattle.sand_fronts.specs.Tiling.{on_tiles}
-use Rattle.sand_fronts.specs.Filling.{Tells}
+use Rattle.sand_fronts.proofs.Common.{ℕ, ◌≡◌, ◌+◌, ◌<◌, number, on_tiles, Tells}
 use Rattle.sand_fronts.proofs.filling.tile_of.Given as goal
 
 abbrev pub invariant-loop-place : goal.invariant-loop-place

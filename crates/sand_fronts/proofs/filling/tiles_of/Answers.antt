@@ -1,5 +1,5 @@
-use Rattle.std.proofs.Common.{rules, arith}
-use Rattle.sand_fronts.specs.Filling.{IsFilled}
+-- Past the end of the list a tile reads as blank, and there is no site in it (`no_tile_filled`).
+use Rattle.sand_fronts.proofs.Common.{rules, arith, IsFilled}
 use Rattle.sand_fronts.proofs.Filled.{entry_more, entry_each, no_tile_filled}
 use Rattle.sand_fronts.proofs.filling.tiles_of.Goals as goal
 

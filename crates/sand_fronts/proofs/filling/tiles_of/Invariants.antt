@@ -1,7 +1,4 @@
-use Rattle.std.proofs.Common.{ℕ, ◌≡◌, ◌<◌, vec_len, vec_capacity}
-use Rattle.sand_fronts.specs.Tiling.{tiles}
-use Rattle.sand_fronts.specs.Waves.{tile_at}
-use Rattle.sand_fronts.specs.Filling.{IsFilled}
+use Rattle.sand_fronts.proofs.Common.{ℕ, ◌≡◌, ◌<◌, vec_len, vec_capacity, tiles, tile_at, IsFilled}
 use Rattle.sand_fronts.proofs.filling.tiles_of.Given as goal
 
 abbrev pub invariant-loop-k : goal.invariant-loop-k

@@ -1,5 +1,6 @@
-use Rattle.std.proofs.Common.{◌+◌, ◌/◌, ◌%◌, ◌≤◌, arith}
-use Rattle.std.specs.Int.{abs_diff}
+-- No column of the tile is farther than the first or the last one, and no row. On a cylinder the shorter way to a
+-- column is at most half the width.
+use Rattle.sand_fronts.proofs.Common.{◌+◌, ◌/◌, ◌%◌, ◌≤◌, arith, abs_diff}
 use Rattle.sand_fronts.proofs.reach.farthest.Goals as goal
 
 pub returns : goal.returns

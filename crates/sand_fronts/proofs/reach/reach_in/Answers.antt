@@ -1,10 +1,10 @@
-use Rattle.std.proofs.Common.{w64, ◌≡◌, arith}
-use Rattle.std.specs.Prelude.{bit_xor}
-use Rattle.std.specs.Int.{trailing_zeros}
-use Rattle.sand_tiles.proofs.Bits.{bit_none}
+-- The places that are no longer in the rest have been read (`Reads`). Each step takes one out of it (`taken`), so it
+-- ends with all of them read.
+use Rattle.sand_fronts.proofs.Common.{w64, ◌≡◌, arith, bit_xor, trailing_zeros, bit_none}
 use Rattle.sand_fronts.proofs.Reached.{IsTaken, taken, fewer_left, reads_more}
 use Rattle.sand_fronts.proofs.reach.reach_in.Goals as goal
 
+-- the first place of the rest is taken out of it
 taken_of : (c : goal.After-max-far)
     → IsTaken c.places.rest (bit_xor c.places.rest c.set_of-rest.result) (trailing_zeros w64 c.places.rest)
 taken_of c = taken c.places.rest c.set_of-rest.result (omega (arith, c.places-test.true))

@@ -1,5 +1,4 @@
-use Rattle.sand_model.specs.Sand.{sum_below}
-use Rattle.sand_tiles.specs.Places.{bit}
+use Rattle.sand_fronts.proofs.Common.{sum_below, bit}
 use Rattle.sand_fronts.proofs.Reached.{Reads}
 use Rattle.sand_fronts.proofs.reach.reach_in.Given as goal
 

@@ -1,5 +1,6 @@
-use Rattle.std.proofs.Common.{◌+◌, ◌*◌, ◌≤◌, ◌-◌, slice_index, ◌∙◌, ap, arith}
-use Rattle.std.proofs.Math.Nat.{mul-le-mul_left}
+-- The entries before the spot have their numbers added, and those from it on are the old ones (`rest`), so that
+-- nothing is added twice. Of eight numbers only those within the grid's row are added (`eights_more`).
+use Rattle.sand_fronts.proofs.Common.{◌+◌, ◌*◌, ◌≤◌, ◌-◌, slice_index, ◌∙◌, ap, arith, mul-le-mul_left}
 use Rattle.sand_fronts.proofs.Eights.{number_of, eights_more}
 use Rattle.sand_fronts.proofs.NewPiles.{by_site_is}
 use Rattle.sand_fronts.proofs.reading.add_eights.Goals.{After-numbers}

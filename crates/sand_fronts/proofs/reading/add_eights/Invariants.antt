@@ -1,7 +1,4 @@
-use Rattle.std.proofs.Common.{◌≡◌, ◌+◌, ◌-◌, ◌*◌, ◌%◌, ◌<◌, ◌≤◌, ℕ, length}
-use Rattle.std.specs.Prelude.{slice_index}
-use Rattle.sand_model.specs.Grid.{sites}
-use Rattle.sand_fronts.specs.Reading.{TellsEights}
+use Rattle.sand_fronts.proofs.Common.{◌≡◌, ◌+◌, ◌-◌, ◌*◌, ◌%◌, ◌<◌, ◌≤◌, ℕ, length, slice_index, sites, TellsEights}
 use Rattle.sand_fronts.proofs.reading.add_eights.Given as goal
 
 abbrev pub invariant-eights : goal.invariant-eights

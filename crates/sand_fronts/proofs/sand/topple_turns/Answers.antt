@@ -1,13 +1,7 @@
-use Rattle.std.proofs.Common.{ℕ, ◌+◌, ◌<◌, ◌∙◌, refl, sym, ap, length, drop, arith}
-use Rattle.std.proofs.Math.ListN.{set}
-use Rattle.std.proofs.lemmas.Bool.{ne_eqb}
-use Rattle.std.proofs.lemmas.List.{length-set, length-take-le, drop_all, drop-set-lt, get_or-take}
-use Rattle.sand_model.specs.Lists.{Lists}
-use Rattle.sand_model.specs.Sand.{one_at}
-use Rattle.sand_fronts.specs.Tiling.{tiles}
-use Rattle.sand_fronts.specs.Waves.{beside_at, over_rim, AtTile}
-use Rattle.sand_fronts.specs.TileLists.{waits, but}
-use Rattle.sand_fronts.specs.Boards.{tiles_of, free_of}
+-- Between two turns the tiles from the position on are those that wait, and the kept ones before it are those to count
+-- (`IsOn`): so writing a kept one disturbs none that waits. Each turn topples a new site, so the list has room
+-- (`few_listed`), and the turns end (`few_topplings`).
+use Rattle.sand_fronts.proofs.Common.{ℕ, ◌+◌, ◌<◌, ◌∙◌, refl, sym, ap, length, drop, arith, set, ne_eqb, length-set, length-take-le, drop_all, drop-set-lt, get_or-take, Lists, one_at, tiles, beside_at, over_rim, AtTile, waits, but, tiles_of, free_of}
 use Rattle.sand_fronts.proofs.OnTiles.{place_below}
 use Rattle.sand_fronts.proofs.Gained.{tile_read}
 use Rattle.sand_fronts.proofs.OneSite.{start_of}
@@ -52,12 +46,13 @@ turns-init c =
     let tile = first_tile d in
     record {
       sand = c.topple_tile.ensures.sand;
-      on = turn_over
-          (turn_first (turn_none (free_of c.args.board.now) c.requires.all_open rest c.requires.drop.inside)
-          c.requires.drop.tile (starts d) tile.each v.visits v.fits)
-          steps.gains (rw (c.push_if.ensures, c.clear.ensures) at c.topple_tile.ensures.joins)
-          (first_kept n k v.tile (tiles_of c.args.sand) rest.quiet.clear tile.inside)
-          (none_wait n k (tiles_of c.args.sand) rest.quiet.none_due) (omega arith) (omega arith) (omega arith);
+      on = turn_over steps.gains (rw (c.push_if.ensures, c.clear.ensures) at c.topple_tile.ensures.joins) record {
+        turn = turn_first (turn_none (free_of c.args.board.now) c.requires.all_open rest c.requires.drop.inside)
+            c.requires.drop.tile (starts d) tile.each v.visits v.fits;
+        waiting = none_wait n k (tiles_of c.args.sand) rest.quiet.none_due;
+        all_kept = first_kept n k v.tile (tiles_of c.args.sand) rest.quiet.clear tile.inside;
+        order = (omega arith, omega arith);
+      };
     }
 
 -- the tile at the position has its turn
@@ -88,7 +83,7 @@ pub index-requires-then-position-len : goal.index-requires-then-position-len
 index-requires-then-position-len c =
     let t = next_two c.requires.board.beside c.turns.invariant.on c.item-k.ensures
     (omega (arith, c.if-position-len.true, c.len-in-turns.ensures.value)) c.item-other.ensures in
-    omega (arith, t.2.tile.inside, c.turns.invariant.sand.len)
+    omega (arith, t.two.tile.inside, c.turns.invariant.sand.len)
 
 pub keep_if-kept-requires-clause-fits : goal.keep_if-kept-requires-clause-fits
 keep_if-kept-requires-clause-fits c =
@@ -99,7 +94,7 @@ pub keep_if-kept-requires-then-position-len-clause-fits : goal.keep_if-kept-requ
 keep_if-kept-requires-then-position-len-clause-fits c =
     let t = next_two c.requires.board.beside c.turns.invariant.on c.item-k.ensures
     (omega (arith, c.if-position-len.true, c.len-in-turns.ensures.value)) c.item-other.ensures in
-    omega (arith, t.2.tile.inside, c.requires.board.beside.fits)
+    omega (arith, t.two.tile.inside, c.requires.board.beside.fits)
 
 pub topple_pair-requires : goal.topple_pair-requires
 topple_pair-requires c =
@@ -111,11 +106,11 @@ topple_pair-requires c =
       board = c.requires.board;
       row = c.requires.row;
       sand = record { len = c.turns.invariant.sand.len; room = room };
-      different = t.0;
-      tile = t.1.tile;
-      other_tile = t.2.tile;
-      ready = t.1.ready;
-      other_ready = t.2.ready;
+      different = t.different;
+      tile = t.one.tile;
+      other_tile = t.two.tile;
+      ready = t.one.ready;
+      other_ready = t.two.ready;
       room = omega (arith, length-set {A = ℕ});
     })
 
@@ -132,10 +127,10 @@ turns-preserved-then-position-len c =
     let within : c.turns.position + 1 < length list =
     omega (arith, c.if-position-len.true, c.len-in-turns.ensures.value) in
     let t = next_two c.requires.board.beside on c.item-k.ensures within c.item-other.ensures in
-    let one_in = t.1.tile.inside in
-    let two_in = t.2.tile.inside in
-    let apart = ne_eqb other k (λ e. t.0 (sym e)) in
-    let spent = on.spent in
+    let one_in = t.one.tile.inside in
+    let two_in = t.two.tile.inside in
+    let apart = ne_eqb other k (λ e. t.different (sym e)) in
+    let order = on.order in
     let kept = keep_one k steps.one.tile on.all_kept one_in (omega arith)
     (tile_read ts k c.index.result.now (omega arith) c.index.ensures) (omega arith) c.keep_if-kept.ensures.next in
     let few = kept.1 in
@@ -146,15 +141,18 @@ turns-preserved-then-position-len c =
     let few' = both.1 in
     record {
       sand = c.topple_pair.ensures.sand;
-      on = turn_over (turn_two on.turn t.0 t.1 t.2 steps) steps.gains
+      on = turn_over steps.gains
           (rw (c.keep_if-kept-then-position-len.ensures.list, c.keep_if-kept.ensures.list) at
           c.topple_pair.ensures.joins)
-          both.0
-          (rw (
-            drop-set-lt next (set list c.turns.kept k) c.keep_if-kept.result other (omega arith),
-            drop-set-lt next list c.turns.kept k (omega arith),
-          ) t.3)
-          (omega arith) (omega arith) (omega (arith, length-set {A = ℕ}));
+          record {
+            turn = turn_two on.turn t steps;
+            waiting = rw (
+              drop-set-lt next (set list c.turns.kept k) c.keep_if-kept.result other (omega arith),
+              drop-set-lt next list c.turns.kept k (omega arith),
+            ) t.waiting;
+            all_kept = both.0;
+            order = (omega arith, omega (arith, length-set {A = ℕ}));
+          };
     }
 
 -- ---- one tile
@@ -190,20 +188,22 @@ turns-preserved c =
     let steps = c.topple_tile-else-position-len.ensures.steps in
     let v = steps.visited in
     let within : c.turns.position < length list = omega (arith, c.turns-test.true, c.len.ensures.value) in
-    let spent = on.spent in
+    let order = on.order in
     let kept = keep_one k v.tile on.all_kept inside (omega arith)
     (tile_read c.turns.sand.tiles.items k c.index.result.now (omega arith) c.index.ensures) (omega arith)
     c.keep_if-kept-else-position-len.ensures.next in
     let few = kept.1 in
     record {
       sand = c.topple_tile-else-position-len.ensures.sand;
-      on = turn_over
-          (turn_one (over_rim (beside_at c.args.board.now.beside.items k) v.new) on.turn t.0 v.visits v.fits
-          (λ m p. omega arith))
-          steps.gains
+      on = turn_over steps.gains
           (rw c.keep_if-kept-else-position-len.ensures.list at c.topple_tile-else-position-len.ensures.joins)
-          kept.0 (rw (drop-set-lt next list c.turns.kept k (omega arith)) t.1)
-          (omega arith) (omega arith) (omega (arith, length-set {A = ℕ}));
+          record {
+            turn = turn_one (over_rim (beside_at c.args.board.now.beside.items k) v.new) on.turn t.0 v.visits v.fits
+                (λ m p. omega arith);
+            waiting = rw (drop-set-lt next list c.turns.kept k (omega arith)) t.1;
+            all_kept = kept.0;
+            order = (omega arith, omega (arith, length-set {A = ℕ}));
+          };
     }
 
 pub returns-clause-wave : goal.returns-clause-wave
@@ -223,8 +223,7 @@ pub returns-clause-kept : goal.returns-clause-kept
 returns-clause-kept c =
     let on = c.turns.invariant.on in
     let list = c.turns.sand.list.items in
-    let spent = on.spent in
-    let within = on.within in
+    let order = on.order in
     let long = length-take-le c.turns.kept list (omega arith) in
     rw (c.truncate.ensures, long)
     (kept_on on.all_kept (λ t less. get_or-take c.turns.kept list t 0 less) (λ m p low. refl))

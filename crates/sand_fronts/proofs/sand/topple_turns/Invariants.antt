@@ -1,8 +1,6 @@
-use Rattle.sand_fronts.specs.Waves.{heights_before}
-use Rattle.sand_fronts.specs.Boards.{tiles_of, free_of, IsSand}
+-- At least as many sites have toppled as the position says, so it is never more than the number of sites.
+use Rattle.sand_fronts.proofs.Common.{heights_before, tiles_of, free_of, IsSand, sites, ◌+◌, ◌-◌}
 use Rattle.sand_fronts.proofs.Turns.{IsOn}
-use Rattle.sand_model.specs.Grid.{sites}
-use Rattle.std.proofs.Common.{◌+◌, ◌-◌}
 use Rattle.sand_fronts.proofs.sand.topple_turns.Given as goal
 
 abbrev pub invariant-turns : goal.invariant-turns

@@ -1,5 +1,6 @@
-use Rattle.std.proofs.Common.{rules, ◌≡◌, length, arith}
-use Rattle.sand_fronts.specs.Waves.{IsBeside}
+-- A tile of the border may have no tile at a number that is found for it. A site's tile is in neither the first nor
+-- the last row of tiles, so all four of its neighbours are tiles (`board_of`).
+use Rattle.sand_fronts.proofs.Common.{rules, ◌≡◌, length, arith, IsBeside}
 use Rattle.sand_fronts.proofs.Boards.{board_of}
 use Rattle.sand_fronts.proofs.Filled.{entry_more}
 use Rattle.sand_fronts.proofs.sides.all_sides.Goals as goal

@@ -1,6 +1,4 @@
-use Rattle.std.proofs.Common.{ℕ, ◌≡◌, ◌<◌, vec_len, vec_capacity}
-use Rattle.sand_fronts.specs.Tiling.{tiles}
-use Rattle.sand_fronts.specs.Waves.{IsBeside, beside_at}
+use Rattle.sand_fronts.proofs.Common.{ℕ, ◌≡◌, ◌<◌, vec_len, vec_capacity, tiles, IsBeside, beside_at}
 use Rattle.sand_fronts.proofs.sides.all_sides.Given as goal
 
 abbrev pub invariant-loop-k : goal.invariant-loop-k

@@ -1,14 +1,7 @@
-use Rattle.std.proofs.Common.{sym, ◌≡◌, ◌+◌, ◌∙◌, refl, ap, arith}
-use Rattle.std.specs.Prelude.{bit_xor}
-use Rattle.std.proofs.Math.ListN.{set}
-use Rattle.std.proofs.lemmas.List.{length-set}
-use Rattle.sand_model.specs.Sand.{one_at}
-use Rattle.sand_model.proofs.Sandpile.{settled_same}
-use Rattle.sand_tiles.specs.declared.tile.Tile.{Tile}
-use Rattle.sand_fronts.specs.Tiling.{tile_of, place_of}
-use Rattle.sand_fronts.specs.Waves.{tile_at, heights_before}
-use Rattle.sand_fronts.specs.Drops.{heights_on}
-use Rattle.sand_fronts.specs.Boards.{tiles_of, counts_of, marks_of, grown}
+-- If the site is not 0 in the planes after the grain, it had fewer than 3, and nothing topples (`few_before`). If it
+-- is 0, it has 4: taken out of the free places, it is at rest for the waves, which settle the heights with the grain
+-- (`due_heights`). Then its tile's word is put back.
+use Rattle.sand_fronts.proofs.Common.{sym, ◌≡◌, ◌+◌, ◌∙◌, refl, ap, arith, bit_xor, set, length-set, one_at, settled_same, Tile, tile_of, place_of, tile_at, heights_before, heights_on, tiles_of, counts_of, marks_of, grown}
 use Rattle.sand_fronts.proofs.OnTiles.{height_low}
 use Rattle.sand_fronts.proofs.Boards.{board_with, sand_with}
 use Rattle.sand_fronts.proofs.Counted.{marked_none}

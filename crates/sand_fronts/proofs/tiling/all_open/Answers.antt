@@ -1,7 +1,5 @@
-use Rattle.std.proofs.Common.{ℕ, rules, ◌≡◌, ◌∙◌, ◌<◌, arith}
-use Rattle.sand_tiles.specs.Places.{bit}
-use Rattle.sand_tiles.proofs.Bits.{bit_none}
-use Rattle.sand_fronts.specs.Tiling.{on_tiles}
+-- Past the end of the list a word reads as 0, and there is no site in its tile (`no_tile_on`).
+use Rattle.sand_fronts.proofs.Common.{ℕ, rules, ◌≡◌, ◌∙◌, ◌<◌, arith, bit, bit_none, on_tiles}
 use Rattle.sand_fronts.proofs.Filled.{entry_more, entry_each, no_tile_on}
 use Rattle.sand_fronts.proofs.tiling.all_open.Goals as goal
 

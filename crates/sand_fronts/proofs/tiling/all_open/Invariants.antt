@@ -1,6 +1,4 @@
-use Rattle.std.proofs.Common.{ℕ, ◌≡◌, ◌<◌, get_or, vec_len, vec_capacity}
-use Rattle.sand_tiles.specs.Places.{bit}
-use Rattle.sand_fronts.specs.Tiling.{tiles, on_tiles}
+use Rattle.sand_fronts.proofs.Common.{ℕ, ◌≡◌, ◌<◌, get_or, vec_len, vec_capacity, bit, tiles, on_tiles}
 use Rattle.sand_fronts.proofs.tiling.all_open.Given as goal
 
 abbrev pub invariant-loop-k : goal.invariant-loop-k

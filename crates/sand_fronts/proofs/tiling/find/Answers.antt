@@ -1,5 +1,5 @@
-use Rattle.std.proofs.Common.{◌≡◌, ◌+◌, ◌*◌, ◌<◌, ◌∙◌, ap, arith}
-use Rattle.sand_fronts.specs.Tiling.{tile_of, place_of}
+-- The site is its row times the width plus its column (`site_parts`), for which the tile and the place are found.
+use Rattle.sand_fronts.proofs.Common.{◌≡◌, ◌+◌, ◌*◌, ◌<◌, ◌∙◌, ap, arith, tile_of, place_of}
 use Rattle.sand_fronts.proofs.Boards.{site_parts}
 use Rattle.sand_fronts.proofs.tiling.find.Goals.{After-place-column}
 use Rattle.sand_fronts.proofs.tiling.find.Goals as goal

@@ -1,3 +1,4 @@
+-- The definitions divide the site to find its row and its column; here they are given, and are the same (`found_at`).
 use Rattle.std.proofs.Common.{◌+◌, ◌*◌, arith}
 use Rattle.sand_fronts.proofs.Boards.{found_at, tile_inside}
 use Rattle.sand_fronts.proofs.OnTiles.{place_below}

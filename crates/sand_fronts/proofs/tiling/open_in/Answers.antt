@@ -1,3 +1,5 @@
+-- All places of an inner tile are sites (`inner_site`). Any other tile is filled with 1 at each site, which is its low
+-- bit (`low_of`).
 use Rattle.std.proofs.Common.{rules, ◌∙◌, sym}
 use Rattle.sand_fronts.proofs.OnTiles.{on_site}
 use Rattle.sand_fronts.proofs.Filled.{full_word, inner_site, low_of}

@@ -1,7 +1,4 @@
-use Rattle.std.proofs.Common.{rules, ap, slice_index, ◌∙◌}
-use Rattle.sand_tiles.specs.Places.{bit}
-use Rattle.sand_tiles.proofs.Bits.{bit_none}
-use Rattle.sand_fronts.specs.Waves.{tile_at}
+use Rattle.sand_fronts.proofs.Common.{rules, ap, slice_index, ◌∙◌, bit, bit_none, tile_at}
 use Rattle.sand_fronts.proofs.Filled.{number_had}
 use Rattle.sand_fronts.proofs.tiling.tiles_with.Goals as goal
 

@@ -1,6 +1,6 @@
-use Rattle.std.proofs.Common.{◌≡◌, ◌∙◌, slice_index, length, refl, ap, arith}
-use Rattle.sand_model.specs.Grid.{sites}
-use Rattle.sand_model.specs.Sand.{IsStable}
+-- If all sites are in the list, they burn in its order, and no set is forbidden (`burned_recurrent`). If not, those
+-- left over are the greatest forbidden set (`burned_forbidden`).
+use Rattle.sand_group.proofs.Common.{◌≡◌, ◌∙◌, slice_index, length, refl, ap, arith, sites, IsStable}
 use Rattle.sand_group.proofs.FireLeavesForbidden.{burned_recurrent, burned_forbidden}
 use Rattle.sand_group.proofs.burning.burn.Goals as goal
 

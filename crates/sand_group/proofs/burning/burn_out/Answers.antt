@@ -1,5 +1,7 @@
-use Rattle.std.proofs.Common.{arith, slice_index, vec_len}
-use Rattle.sand_model.proofs.Lists.{lists_length, read_below, read_fresh}
+-- The sites before the head have burnt and are taken off their neighbours' numbers (`counts`). The one at the head is
+-- in the list only once (`read_fresh`), so its neighbours still count it (`enough_left`), and it burns in turn
+-- (`one_more_burns`).
+use Rattle.sand_group.proofs.Common.{arith, slice_index, vec_len, lists_length, read_below, read_fresh}
 use Rattle.sand_group.proofs.FireLeavesForbidden.{enough_left, one_more_burns}
 use Rattle.sand_group.proofs.burning.burn_out.Goals as goal
 

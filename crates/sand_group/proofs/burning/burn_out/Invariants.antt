@@ -1,6 +1,4 @@
-use Rattle.std.proofs.Common.{◌≡◌, ◌-◌, ◌≤◌, [], length, slice_index, take, vec_len, vec_capacity}
-use Rattle.sand_model.specs.Grid.{sites}
-use Rattle.sand_group.specs.Fire.{ListsBurning, FireSpreadsFrom, CountsUnburnt}
+use Rattle.sand_group.proofs.Common.{◌≡◌, ◌-◌, ◌≤◌, [], length, slice_index, take, vec_len, vec_capacity, sites, ListsBurning, FireSpreadsFrom, CountsUnburnt}
 use Rattle.sand_group.proofs.burning.burn_out.Given as goal
 
 abbrev pub invariant-loop-head : goal.invariant-loop-head

@@ -1,6 +1,5 @@
-use Rattle.std.proofs.Common.{◌∙◌, sym, ap, arith, slice_index, take, vec_len, length}
-use Rattle.std.proofs.lemmas.List.{take-take, length-take}
-use Rattle.sand_model.proofs.Lists.{read_below, read_fresh}
+-- The same as in `burn_out`, up to the end that the list had: what joins the list comes behind it (`kept`).
+use Rattle.sand_group.proofs.Common.{◌∙◌, sym, ap, arith, slice_index, take, vec_len, length, take-take, length-take, read_below, read_fresh}
 use Rattle.sand_group.proofs.FireLeavesForbidden.{enough_left, one_more_burns}
 use Rattle.sand_group.proofs.burning.burn_step.Goals as goal
 

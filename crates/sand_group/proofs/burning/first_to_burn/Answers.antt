@@ -1,6 +1,4 @@
-use Rattle.std.proofs.Common.{length, arith}
-use Rattle.std.proofs.lemmas.Bool.{le-leb, lt-leb}
-use Rattle.sand_model.proofs.Lists.{lists_more_no, lists_more_yes, lists_of}
+use Rattle.sand_group.proofs.Common.{length, arith, le-leb, lt-leb, lists_more_no, lists_more_yes, lists_of}
 use Rattle.sand_group.proofs.burning.first_to_burn.Goals as goal
 use Rattle.sand_group.proofs.burning.first_to_burn.Goals.{then-heights-site+in_ok-push, else-heights-site}
 

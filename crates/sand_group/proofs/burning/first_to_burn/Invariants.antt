@@ -1,5 +1,4 @@
-use Rattle.std.proofs.Common.{◌≤◌, length, vec_capacity}
-use Rattle.sand_group.specs.Fire.{ListsBurning}
+use Rattle.sand_group.proofs.Common.{◌≤◌, length, vec_capacity, ListsBurning}
 use Rattle.sand_group.proofs.burning.first_to_burn.Given as goal
 
 abbrev pub invariant-loop-site : goal.invariant-loop-site

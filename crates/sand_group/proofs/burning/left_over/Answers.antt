@@ -1,6 +1,5 @@
-use Rattle.std.proofs.Common.{not, ap, arith}
-use Rattle.std.proofs.lemmas.Bool.{le-leb, lt-leb}
-use Rattle.sand_model.proofs.Lists.{lists_below, lists_more_yes, lists_more_no}
+-- The sites are tried in ascending order, so each push keeps the list ascending (`increasing_push`).
+use Rattle.sand_group.proofs.Common.{not, ap, arith, le-leb, lt-leb, lists_below, lists_more_yes, lists_more_no}
 use Rattle.sand_group.proofs.SitesInListing.{increasing_push}
 use Rattle.sand_group.proofs.burning.left_over.Goals as goal
 use Rattle.sand_group.proofs.burning.left_over.Goals.{then-heights-site+in_ok-push, else-heights-site}

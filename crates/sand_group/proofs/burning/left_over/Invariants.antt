@@ -1,5 +1,4 @@
-use Rattle.std.specs.List.Sorted.{IsStrictlyIncreasing}
-use Rattle.sand_group.specs.Fire.{ListsUnburnt}
+use Rattle.sand_group.proofs.Common.{IsStrictlyIncreasing, ListsUnburnt}
 use Rattle.sand_group.proofs.burning.left_over.Given as goal
 
 abbrev pub invariant-loop-site : goal.invariant-loop-site

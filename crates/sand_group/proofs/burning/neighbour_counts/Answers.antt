@@ -1,6 +1,5 @@
-use Rattle.std.proofs.Common.{ℕ, ◌≡◌, ◌+◌, length, ap, arith}
-use Rattle.std.proofs.lemmas.List.{length_push}
-use Rattle.sand_model.specs.Grid.{sites, missing}
+-- Of the four places of a site those that are not outside the grid are its neighbours (`counts_none`).
+use Rattle.sand_group.proofs.Common.{ℕ, ◌≡◌, ◌+◌, length, ap, arith, length_push, sites, missing}
 use Rattle.sand_certify.proofs.Pushed.{pushed}
 use Rattle.sand_group.proofs.FireLeavesForbidden.{missing_at_most_four, counts_none}
 use Rattle.sand_group.proofs.burning.neighbour_counts.Goals as goal

@@ -1,5 +1,4 @@
-use Rattle.std.proofs.Common.{ℕ, ◌≡◌, ◌+◌, ◌<◌, length, slice_index}
-use Rattle.sand_model.specs.Grid.{missing}
+use Rattle.sand_group.proofs.Common.{ℕ, ◌≡◌, ◌+◌, ◌<◌, length, slice_index, missing}
 use Rattle.sand_group.proofs.burning.neighbour_counts.Given as goal
 
 abbrev pub invariant-loop-site : goal.invariant-loop-site

@@ -1,8 +1,5 @@
-use Rattle.std.proofs.Common.{◌≡◌, ◌-◌, slice_index, get_or, length, arith}
-use Rattle.std.proofs.lemmas.Bool.{lt-leb}
-use Rattle.std.proofs.lemmas.List.{get_or_read, get_or-set_same}
-use Rattle.sand_model.proofs.Lists.{lists_room}
-use Rattle.sand_group.specs.Fire.{may_burn}
+-- The site's number falls to its height only now, so it is not in the list yet, and the list has room (`lists_room`).
+use Rattle.sand_group.proofs.Common.{◌≡◌, ◌-◌, slice_index, get_or, length, arith, lt-leb, get_or_read, get_or-set_same, lists_room, may_burn}
 use Rattle.sand_group.proofs.burning.note_burnt_neighbour.Goals as goal
 
 pub unwrap-requires : goal.unwrap-requires

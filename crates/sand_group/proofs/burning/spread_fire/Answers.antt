@@ -1,5 +1,6 @@
-use Rattle.std.proofs.Common.{arith}
-use Rattle.sand_model.proofs.Neighbours.{place_inside, occurrences_places}
+-- The number of a neighbour still counts the burning site, at each place where it is next to it: so one can be taken
+-- off there (`place_left`). The four places together are the neighbours (`occurrences_places`).
+use Rattle.sand_group.proofs.Common.{arith, place_inside, occurrences_places}
 use Rattle.sand_group.proofs.FireLeavesForbidden.{place_left}
 use Rattle.sand_group.proofs.burning.spread_fire.Goals as goal
 

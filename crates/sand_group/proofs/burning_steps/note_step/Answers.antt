@@ -1,5 +1,5 @@
-use Rattle.std.proofs.Common.{◌∙◌, arith, refl, slice_index}
-use Rattle.std.proofs.lemmas.List.{length-set}
+-- The sites noted are those that the list has between the start and the place (`note_one`).
+use Rattle.sand_group.proofs.Common.{◌∙◌, arith, refl, slice_index, length-set}
 use Rattle.sand_group.proofs.BurningSteps.{note_one}
 use Rattle.sand_group.proofs.burning_steps.note_step.Goals as goal
 

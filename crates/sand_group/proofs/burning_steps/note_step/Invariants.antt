@@ -1,5 +1,4 @@
-use Rattle.std.proofs.Common.{ℕ, ◌≡◌, ◌<◌, ◌≤◌, length, slice_index, take}
-use Rattle.sand_model.specs.Sand.{occurrences}
+use Rattle.sand_group.proofs.Common.{ℕ, ◌≡◌, ◌<◌, ◌≤◌, length, slice_index, take, occurrences}
 use Rattle.sand_group.proofs.burning_steps.note_step.Given as goal
 
 abbrev pub invariant-loop-place : goal.invariant-loop-place

@@ -1,11 +1,7 @@
-use Rattle.std.proofs.Common.{ℕ, ◌≡◌, ◌∙◌, arith, ap, sym, List, length, replicate, get_or, take, slice_index}
-use Rattle.std.proofs.lemmas.List.{get_or-replicate, length-replicate, take_all}
-use Rattle.std.proofs.lemmas.List.Sums.{sum_by_more_le}
-use Rattle.sand_model.specs.Grid.{sites}
-use Rattle.sand_model.specs.Sand.{one_at}
-use Rattle.sand_model.proofs.Bounds.{sites_limit}
-use Rattle.sand_model.proofs.Lists.{lists_below, lists_length}
-use Rattle.sand_group.specs.Recurrence.{is_in}
+-- The list up to the head has the sites that burn within the steps so far (`before`), and the whole list those that
+-- burn within one more (`next_in_list`). When the head is at the end the two are the same: a step burns nothing, and
+-- so no later one does (`times_end`).
+use Rattle.sand_group.proofs.Common.{ℕ, ◌≡◌, ◌∙◌, arith, ap, sym, List, length, replicate, get_or, take, slice_index, get_or-replicate, length-replicate, take_all, sum_by_more_le, sites, one_at, sites_limit, lists_below, lists_length, is_in}
 use Rattle.sand_group.proofs.BurningSteps.{none_before, next_in_list, times_begin, times_on, times_end}
 use Rattle.sand_group.proofs.burning_steps.times_of.Goals as goal
 

@@ -1,7 +1,4 @@
-use Rattle.std.proofs.Common.{ℕ, ◌≡◌, ◌-◌, ◌<◌, ◌≤◌, [], length, slice_index, take, vec_len, vec_capacity}
-use Rattle.sand_model.specs.Grid.{sites}
-use Rattle.sand_group.specs.Recurrence.{is_in}
-use Rattle.sand_group.specs.Fire.{ListsBurning, FireSpreadsFrom, CountsUnburnt}
+use Rattle.sand_group.proofs.Common.{ℕ, ◌≡◌, ◌-◌, ◌<◌, ◌≤◌, [], length, slice_index, take, vec_len, vec_capacity, sites, is_in, ListsBurning, FireSpreadsFrom, CountsUnburnt}
 use Rattle.sand_group.specs.BurningTimes.{burns_within, AreTimesSoFar}
 use Rattle.sand_group.proofs.burning_steps.times_of.Given as goal
 

@@ -1,6 +1,4 @@
-use Rattle.std.proofs.Common.{◌≡◌, ◌≤◌, take}
-use Rattle.sand_model.specs.Piles.{most_grains}
-use Rattle.sand_group.specs.Classes.{whole_grains}
+use Rattle.sand_group.proofs.Common.{◌≡◌, ◌≤◌, take, most_grains, whole_grains}
 use Rattle.sand_group.proofs.classes.is_within.Given as goal
 
 abbrev pub invariant-loop-height : goal.invariant-loop-height

@@ -1,5 +1,4 @@
-use Rattle.std.proofs.Common.{◌+◌, ◌*◌, rules, pos, ◌-ℤ◌, slice_index}
-use Rattle.std.proofs.lemmas.Int.{ints}
+use Rattle.sand_group.proofs.Common.{◌+◌, ◌*◌, rules, pos, ◌-ℤ◌, slice_index, ints}
 use Rattle.sand_group.proofs.IntegerLists.{integer_pushed}
 use Rattle.sand_group.proofs.classes.net_topplings.Goals as goal
 

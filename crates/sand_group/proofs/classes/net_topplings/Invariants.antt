@@ -1,5 +1,4 @@
-use Rattle.std.proofs.Common.{ℕ, ◌≡◌, ◌+◌, ◌*◌, ◌<◌, pos, ◌-ℤ◌, length, slice_index}
-use Rattle.sand_group.specs.Classes.{integer_at}
+use Rattle.sand_group.proofs.Common.{ℕ, ◌≡◌, ◌+◌, ◌*◌, ◌<◌, pos, ◌-ℤ◌, length, slice_index, integer_at}
 use Rattle.sand_group.proofs.classes.net_topplings.Given as goal
 
 abbrev pub invariant-loop-site : goal.invariant-loop-site

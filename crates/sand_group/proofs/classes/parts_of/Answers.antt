@@ -1,12 +1,11 @@
-use Rattle.std.proofs.Common.{◌≡◌, ◌+◌, ◌-◌, rules, ap, pos, ◌-ℤ◌, arith, sum, w64, FitsSigned}
-use Rattle.std.specs.Prelude.{unsigned_abs}
-use Rattle.std.proofs.lemmas.Int.{to_z-of_z}
-use Rattle.std.proofs.lemmas.List.Sums.{sum_by_more, sum_by_push}
-use Rattle.sand_group.specs.Classes.{integer_at}
+-- Of the two parts of a height one is 0 and the other its absolute value (`split_above`, `split_below`): so their
+-- difference is the height, and their sum the absolute value.
+use Rattle.sand_group.proofs.Common.{◌≡◌, ◌+◌, ◌-◌, rules, ap, pos, ◌-ℤ◌, arith, sum, w64, FitsSigned, unsigned_abs, to_z-of_z, sum_by_more, sum_by_push, integer_at}
 use Rattle.sand_group.proofs.IntegerLists.{difference_pushed, split_below, split_above}
 use Rattle.sand_group.proofs.classes.parts_of.Goals.{then-height-lt0, else-height-lt0}
 use Rattle.sand_group.proofs.classes.parts_of.Goals as goal
 
+-- the parts of the next height, of either sign
 next_height : (c : goal.In_ok-push-2)
     → (integer_at c.args.heights.now c.loop-height.height-index
     ≡ pos (c.unsigned_abs-size.result - c.if-height-lt0.debt) -ℤ pos c.if-height-lt0.debt)

@@ -1,5 +1,4 @@
-use Rattle.std.proofs.Common.{ℕ, ◌≡◌, ◌+◌, ◌<◌, pos, ◌-ℤ◌, length, sum, take, slice_index}
-use Rattle.sand_group.specs.Classes.{integer_at, whole_grains}
+use Rattle.sand_group.proofs.Common.{ℕ, ◌≡◌, ◌+◌, ◌<◌, pos, ◌-ℤ◌, length, sum, take, slice_index, integer_at, whole_grains}
 use Rattle.sand_group.proofs.classes.parts_of.Given as goal
 
 abbrev pub invariant-loop-height : goal.invariant-loop-height

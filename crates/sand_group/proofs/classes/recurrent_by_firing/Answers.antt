@@ -1,5 +1,7 @@
-use Rattle.sand_model.specs.Piles.{height_of}
-use Rattle.sand_group.specs.Classes.{integer_at, IsFiredToRecurrent}
+-- The four odometers make a firing vector that leads to the recurrent pile (`fired_to_recurrent`). Each is below 2^54,
+-- so their sums fit (`few_topplings`). A recurrent pile is that of its class, and fires nothing
+-- (`recurrent_fires_nothing`).
+use Rattle.sand_group.proofs.Common.{height_of, integer_at, IsFiredToRecurrent}
 use Rattle.sand_group.proofs.FiringVectors.{recurrent_fires_nothing}
 use Rattle.sand_group.proofs.ReachedIsRecurrent.{few_topplings, fired_to_recurrent}
 use Rattle.sand_group.proofs.classes.recurrent_by_firing.Goals.{After-into_pile}

@@ -1,6 +1,6 @@
-use Rattle.std.proofs.Common.{ℕ, ◌≡◌, ◌+◌, ◌/◌, ◌∙◌, refl, arith}
+-- Twice m / 2 is m, or one less if m is odd, and sums of a pile add up as their numbers do (`sum_is_multiple`).
+use Rattle.sand_group.proofs.Common.{ℕ, ◌≡◌, ◌+◌, ◌/◌, ◌∙◌, refl, arith, height_of}
 use Rattle.std.proofs.lemmas.Result.{IfOk-weaker}
-use Rattle.sand_model.specs.Piles.{height_of}
 use Rattle.sand_group.proofs.Multiples.{one_is_itself, sum_is_multiple}
 use Rattle.sand_group.proofs.doubling.doubled.Goals as goal
 

@@ -1,5 +1,7 @@
-use Rattle.std.proofs.Common.{◌∙◌, ap, arith, length, subst}
-use Rattle.sand_model.specs.Piles.{IsPile, PileView, height_of}
+-- n / 2^k has the digits of n except the last k, and the sum so far is the pile's for this number (`multiple`): at
+-- first the pile itself (`first_digit`), then with one digit more in each step (`without_last_digit`), until k is 0
+-- (`all_digits`).
+use Rattle.sand_group.proofs.Common.{◌∙◌, ap, arith, length, subst, IsPile, PileView, height_of}
 use Rattle.sand_group.proofs.Multiples.{first_digit, without_last_digit, all_digits}
 use Rattle.sand_group.proofs.doubling.multiple.Goals as goal
 

@@ -1,7 +1,4 @@
-use Rattle.std.proofs.Common.{◌≡◌, ◌/◌, ◌^◌, ◌<◌, length}
-use Rattle.sand_model.specs.Grid.{sites}
-use Rattle.sand_model.specs.Piles.{height_of}
-use Rattle.sand_group.specs.Group.{IsMultiple}
+use Rattle.sand_group.proofs.Common.{◌≡◌, ◌/◌, ◌^◌, ◌<◌, length, sites, height_of, IsMultiple}
 use Rattle.sand_group.proofs.doubling.multiple.Given as goal
 
 abbrev pub invariant-digits : goal.invariant-digits

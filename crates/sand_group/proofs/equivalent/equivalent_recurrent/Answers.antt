@@ -1,7 +1,6 @@
-use Rattle.std.proofs.Common.{◌∙◌, ap}
-use Rattle.sand_model.specs.Piles.{PileView, height_of}
-use Rattle.sand_settle.specs.Settling.{odometer_of}
-use Rattle.sand_group.specs.Group.{IsEquivalentRecurrent}
+-- What is settled last represents the class of the pile (`equivalent_settles`). A class has one recurrent pile, so a
+-- recurrent pile comes back as it is (`equivalent_itself`).
+use Rattle.sand_group.proofs.Common.{◌∙◌, ap, PileView, height_of, odometer_of, IsEquivalentRecurrent}
 use Rattle.sand_group.proofs.OperationsOnHeights.{equivalent_settles, equivalent_itself}
 use Rattle.sand_group.proofs.equivalent.equivalent_recurrent.Goals.{In_ok-settled_together}
 use Rattle.sand_group.proofs.equivalent.equivalent_recurrent.Goals as goal

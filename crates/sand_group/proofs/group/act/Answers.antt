@@ -1,8 +1,5 @@
-use Rattle.std.proofs.Common.{◌+◌, ◌<◌, ◌∙◌}
-use Rattle.sand_model.specs.Grid.{sites}
-use Rattle.sand_model.specs.Piles.{height_of}
-use Rattle.sand_model.specs.Sand.{one_at}
-use Rattle.sand_group.specs.Group.{SettlesTo}
+-- A recurrent pile with more grains settles to a recurrent one (`sum_settles`).
+use Rattle.sand_group.proofs.Common.{◌+◌, ◌<◌, ◌∙◌, sites, height_of, one_at, SettlesTo}
 use Rattle.sand_group.proofs.OperationsOnHeights.{grain_settles, recurrent_there, sum_settles}
 use Rattle.sand_group.proofs.group.act.Goals.{In_ok-settled}
 use Rattle.sand_group.proofs.group.act.Goals as goal

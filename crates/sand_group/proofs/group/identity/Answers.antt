@@ -1,3 +1,4 @@
+-- An identity that was guessed and shown is also what some d settles to, since there is only one (`identity_settles`).
 use Rattle.sand_group.proofs.EmptiedIsIdentity.{identity_settles}
 use Rattle.sand_group.proofs.group.identity.Goals as goal
 

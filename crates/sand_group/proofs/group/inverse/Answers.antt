@@ -1,6 +1,5 @@
-use Rattle.std.proofs.Common.{◌-◌, ◌*◌, get_or, slice_index}
-use Rattle.sand_model.specs.Piles.{height_of}
-use Rattle.sand_group.specs.Group.{IsInverse, SettlesTo, IsSurplus}
+-- 2d - c is equivalent to -c, and at least 3 at each site, so it settles to the inverse (`inverse_is_settled`).
+use Rattle.sand_group.proofs.Common.{◌-◌, ◌*◌, get_or, slice_index, height_of, IsInverse, SettlesTo, IsSurplus}
 use Rattle.sand_group.proofs.OperationsSettle.{inverse_is_settled}
 use Rattle.sand_group.proofs.OperationsOnHeights.{difference_settles, recurrent_there}
 use Rattle.sand_group.proofs.group.inverse.Goals.{In_ok-settled}

@@ -1,6 +1,5 @@
-use Rattle.std.proofs.Common.{arith, subst, sym, ap, ◌∙◌, ◌+◌, Err}
-use Rattle.sand_model.specs.Piles.{height_of}
-use Rattle.sand_group.specs.Group.{SettlesTo}
+-- Two stable piles together are far below the limit (`together_small`), so only an allocation can fail.
+use Rattle.sand_group.proofs.Common.{arith, subst, sym, ap, ◌∙◌, ◌+◌, Err, height_of, SettlesTo}
 use Rattle.sand_group.proofs.OperationsOnHeights.{together_small, together_settles}
 use Rattle.sand_group.proofs.group.settled_together.Goals as goal
 

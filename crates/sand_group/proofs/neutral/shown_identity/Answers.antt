@@ -1,5 +1,5 @@
-use Rattle.std.proofs.Common.{ap, arith, get_or}
-use Rattle.sand_model.specs.Piles.{PileView}
+-- What topplings empty is equivalent to all 0 (`emptied_is_none`), and what burns is recurrent: so it is the identity.
+use Rattle.sand_group.proofs.Common.{ap, arith, get_or, PileView}
 use Rattle.sand_group.proofs.EmptiedIsIdentity.{emptied_is_none}
 use Rattle.sand_group.proofs.OperationsOnHeights.{few_grains}
 use Rattle.sand_group.proofs.neutral.shown_identity.Goals as goal

@@ -1,7 +1,6 @@
-use Rattle.std.proofs.Common.{List, ℕ, ap, arith, length, get_or, slice_index}
-use Rattle.std.proofs.lemmas.List.Sums.{sum_by-le}
-use Rattle.sand_model.specs.Piles.{PileView, height_of}
-use Rattle.sand_model.proofs.Bounds.{sites_limit}
+-- No height that is settled last is over 18, far below the limit of a pile. What is proved of lists holds of the
+-- piles.
+use Rattle.sand_group.proofs.Common.{List, ℕ, ap, arith, length, get_or, slice_index, sum_by-le, PileView, height_of, sites_limit}
 use Rattle.sand_group.proofs.reaching.reach.Goals as goal
 
 pub from_vec-requires-clause-limit : goal.from_vec-requires-clause-limit

@@ -1,9 +1,7 @@
-use Rattle.std.proofs.Common.{List, ℕ, ap, arith, length, get_or}
-use Rattle.std.proofs.lemmas.List.Sums.{sum_by-le}
-use Rattle.sand_model.specs.Integers.{whole}
-use Rattle.sand_model.specs.Piles.{PileView, height_of}
-use Rattle.sand_model.proofs.Bounds.{sites_limit}
-use Rattle.sand_group.specs.Classes.{integer_at, IsSuperstableOf}
+-- From below - above and a lift of 3 the recurrent pile of 3 - p is reached, and 3 less it is superstable
+-- (`superstable_from_reached`). A class has one such pile, so heights are superstable if and only if they are it
+-- (`superstable_if_itself`).
+use Rattle.sand_group.proofs.Common.{List, ℕ, ap, arith, length, get_or, sum_by-le, whole, PileView, height_of, sites_limit, integer_at, IsSuperstableOf}
 use Rattle.sand_group.proofs.ReachedIsRecurrent.{superstable_from_reached}
 use Rattle.sand_group.proofs.SuperstableHeights.{superstable_if_itself}
 use Rattle.sand_group.proofs.superstables.superstable.Goals.{After-from_vec}

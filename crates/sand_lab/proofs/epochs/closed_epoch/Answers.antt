@@ -1,13 +1,5 @@
-use Rattle.std.proofs.Common.{◌≡◌, ℕ, List, vec_len, map, sym, ap, subst, ◌∙◌}
-use Rattle.sand_model.specs.Piles.{PileView}
-use Rattle.sand_shared.specs.declared.view.Receipt.{Receipt}
+use Rattle.sand_lab.proofs.Common.{◌≡◌, ℕ, List, vec_len, map, sym, ap, subst, ◌∙◌, PileView, Receipt, PassView, EachOnce, RecordView, quota_of, HasWorked, HavePlaces, IsJournal, flattened, lists, IsClosed}
 use Rattle.sand_shared.specs.declared.view.Terms.{Terms}
-use Rattle.sand_shared.specs.Passes.{PassView, EachOnce}
-use Rattle.sand_shared.specs.Record.{RecordView}
-use Rattle.sand_plan.specs.Plans.{quota_of}
-use Rattle.sand_lab.specs.Crews.{HasWorked}
-use Rattle.sand_lab.specs.Journals.{HavePlaces, IsJournal, flattened, lists}
-use Rattle.sand_lab.specs.Epochs.{IsClosed}
 use Rattle.sand_lab.proofs.EpochIsClosed.{whole, gathered_parts, places, closed_is}
 use Rattle.sand_lab.proofs.epochs.closed_epoch.Goals.{After-sweep_on}
 use Rattle.sand_lab.proofs.epochs.closed_epoch.Goals as goal
@@ -26,12 +18,12 @@ sweep_on-requires-after_bounds g c κs bounds =
     (c.args.wish, c.args.epoch, c.work_and_make_blank.ensures.crew.worked c.args.epoch c.in_ok-crew.ensures.crew)
 
 pub gather-requires-clause-crew : goal.gather-requires-clause-crew
-gather-requires-clause-crew g c = (
-  c.args.wish,
-  c.args.epoch,
-  c.requires.plan.some_workers,
-  worked g (goal.at.gather-requires-clause-crew g c).After-sweep_on,
-)
+gather-requires-clause-crew g c = record {
+  wish = c.args.wish;
+  epoch = c.args.epoch;
+  some = c.requires.plan.some_workers;
+  worked = worked g (goal.at.gather-requires-clause-crew g c).After-sweep_on;
+}
 
 pub settle-requires-clause-whole : goal.settle-requires-clause-whole
 settle-requires-clause-whole g c κs bounds =

@@ -1,9 +1,4 @@
-use Rattle.std.proofs.Common.{◌≡◌, ℕ, List, Vec, Global, sym, ap, ◌∙◌, subst}
-use Rattle.sand_shared.specs.declared.view.Receipt.{Receipt}
-use Rattle.sand_shared.specs.Passes.{PassView}
-use Rattle.sand_shared.specs.Record.{Tells, IsRecordOf}
-use Rattle.sand_lab.specs.declared.journal.Entry.{Entry}
-use Rattle.sand_lab.specs.Journals.{IsJournal, flattened, lists, sites_in}
+use Rattle.sand_lab.proofs.Common.{◌≡◌, ℕ, List, Vec, Global, sym, ap, ◌∙◌, subst, Receipt, PassView, Tells, IsRecordOf, Entry, IsJournal, flattened, lists, sites_in}
 use Rattle.sand_lab.proofs.EachNumberOnce.{journal_tells}
 use Rattle.sand_lab.proofs.epochs.settle.Goals as goal
 

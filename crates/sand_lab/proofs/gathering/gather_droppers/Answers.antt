@@ -1,10 +1,4 @@
-use Rattle.std.proofs.Common.{rules, arith, ◌≡◌, suc, List, Vec, Global, [], ◌∷◌, ◌++◌, All, ap, ap₂, sym, subst, ◌∙◌, append_assoc}
-use Rattle.std.proofs.lemmas.List.{flat_map_more, map-append}
-use Rattle.std.specs.Vec.Iter.{into_iter_items}
-use Rattle.sand_shared.specs.declared.view.Receipt.{Receipt}
-use Rattle.sand_shared.specs.Passes.{PassView}
-use Rattle.sand_lab.specs.declared.droppers.Dropper.{Dropper}
-use Rattle.sand_lab.specs.Gathering.{all_receipts, HoldsReceipts}
+use Rattle.sand_lab.proofs.Common.{rules, arith, ◌≡◌, suc, List, Vec, Global, [], ◌∷◌, ◌++◌, All, ap, ap₂, sym, subst, ◌∙◌, append_assoc, flat_map_more, map-append, into_iter_items, Receipt, PassView, Dropper, all_receipts, HoldsReceipts}
 use Rattle.sand_lab.proofs.gathering.gather_droppers.Goals as goal
 
 pub loop-dropper-preserved : goal.loop-dropper-preserved

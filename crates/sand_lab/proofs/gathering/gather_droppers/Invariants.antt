@@ -1,9 +1,4 @@
-use Rattle.std.proofs.Common.{◌≡◌, ◌++◌, ◌+◌, ◌≤◌, All, length, vec_len, vec_capacity}
-use Rattle.std.specs.Vec.Iter.{into_iter_items}
-use Rattle.sand_shared.specs.Passes.{IsPassOf}
-use Rattle.sand_lab.specs.declared.droppers.Dropper.{Dropper}
-use Rattle.sand_lab.specs.Gathering.{parts_of, all_receipts, HoldsReceipts}
-use Rattle.sand_lab.specs.Journals.{lists}
+use Rattle.sand_lab.proofs.Common.{◌≡◌, ◌++◌, ◌+◌, ◌≤◌, All, length, vec_len, vec_capacity, into_iter_items, IsPassOf, Dropper, parts_of, all_receipts, HoldsReceipts, lists}
 use Rattle.sand_lab.proofs.gathering.gather_droppers.Given as goal
 
 abbrev pub invariant-loop-dropper : goal.invariant-loop-dropper

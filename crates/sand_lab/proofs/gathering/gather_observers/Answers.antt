@@ -1,10 +1,4 @@
-use Rattle.std.proofs.Common.{rules, arith, ◌≡◌, ℕ, suc, List, Vec, Global, [], ◌∷◌, ◌++◌, All, ap₂, subst, sym, ◌∙◌, append_assoc, append-nil}
-use Rattle.std.proofs.lemmas.List.{map-append}
-use Rattle.std.specs.Vec.Iter.{into_iter_items}
-use Rattle.sand_shared.specs.declared.view.Receipt.{Receipt}
-use Rattle.sand_shared.specs.Passes.{PassView}
-use Rattle.sand_lab.specs.declared.observers.Observer.{Observer}
-use Rattle.sand_lab.specs.Gathering.{HoldsNothing}
+use Rattle.sand_lab.proofs.Common.{rules, arith, ◌≡◌, ℕ, suc, List, Vec, Global, [], ◌∷◌, ◌++◌, All, ap₂, subst, sym, ◌∙◌, append_assoc, append-nil, map-append, into_iter_items, Receipt, PassView, Observer, HoldsNothing}
 use Rattle.sand_lab.proofs.gathering.gather_observers.Goals as goal
 
 pub loop-observer-preserved : goal.loop-observer-preserved

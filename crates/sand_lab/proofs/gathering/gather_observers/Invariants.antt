@@ -1,8 +1,4 @@
-use Rattle.std.proofs.Common.{◌≡◌, ◌++◌, ◌+◌, ◌≤◌, All, length, map, vec_len, vec_capacity}
-use Rattle.std.specs.Vec.Iter.{into_iter_items}
-use Rattle.sand_shared.specs.Passes.{IsPassOf}
-use Rattle.sand_lab.specs.declared.observers.Observer.{Observer}
-use Rattle.sand_lab.specs.Gathering.{readings, HoldsNothing}
+use Rattle.sand_lab.proofs.Common.{◌≡◌, ◌++◌, ◌+◌, ◌≤◌, All, length, map, vec_len, vec_capacity, into_iter_items, IsPassOf, Observer, readings, HoldsNothing}
 use Rattle.sand_lab.proofs.gathering.gather_observers.Given as goal
 
 abbrev pub invariant-loop-observer : goal.invariant-loop-observer

@@ -1,12 +1,4 @@
-use Rattle.std.proofs.Common.{rules, arith, ◌≡◌, ℕ, ◌+◌, ◌*◌, ◌/◌, List, [], ◌∷◌, ◌++◌, length, Some, ap, ap₂, sym, subst, ◌∙◌, append_assoc, append-nil, length-append}
-use Rattle.std.specs.Prelude.{slice_get}
-use Rattle.std.proofs.lemmas.List.{flat_map_more, map-append, nil_from_length}
-use Rattle.std.proofs.Math.Nat.{mul-div_cancel_left}
-use Rattle.std.specs.Vec.Iter.{into_iter_items}
-use Rattle.sand_shared.specs.OpenPile.{grid_of_terms}
-use Rattle.sand_shared.specs.Passes.{PassView, together}
-use Rattle.sand_lab.specs.declared.workers.Worker.{Worker}
-use Rattle.sand_lab.specs.Gathering.{all_counts, HoldsBand}
+use Rattle.sand_lab.proofs.Common.{rules, arith, ◌≡◌, ℕ, ◌+◌, ◌*◌, ◌/◌, List, [], ◌∷◌, ◌++◌, length, Some, ap, ap₂, sym, subst, ◌∙◌, append_assoc, append-nil, length-append, slice_get, flat_map_more, map-append, nil_from_length, mul-div_cancel_left, into_iter_items, grid_of_terms, PassView, together, Worker, all_counts, HoldsBand}
 use Rattle.sand_lab.proofs.RowsInBands.{top, band_joined, band_touches, next_at, share_grows}
 use Rattle.sand_lab.proofs.gathering.gather_workers.Goals.{In-Some}
 use Rattle.sand_lab.proofs.gathering.gather_workers.Goals as goal

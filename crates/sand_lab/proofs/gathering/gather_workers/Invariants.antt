@@ -1,8 +1,4 @@
-use Rattle.std.proofs.Common.{◌≡◌, ◌++◌, ◌+◌, ◌*◌, ◌/◌, ◌≤◌, length, vec_len, vec_capacity}
-use Rattle.std.specs.Vec.Iter.{into_iter_items, into_iter_len}
-use Rattle.sand_shared.specs.OpenPile.{grid_of_terms}
-use Rattle.sand_shared.specs.Passes.{IsPassOf}
-use Rattle.sand_lab.specs.Gathering.{all_counts, all_swept}
+use Rattle.sand_lab.proofs.Common.{◌≡◌, ◌++◌, ◌+◌, ◌*◌, ◌/◌, ◌≤◌, length, vec_len, vec_capacity, into_iter_items, into_iter_len, grid_of_terms, IsPassOf, all_counts, all_swept}
 use Rattle.sand_lab.proofs.RowsInBands.{top}
 use Rattle.sand_lab.proofs.gathering.gather_workers.Given as goal
 

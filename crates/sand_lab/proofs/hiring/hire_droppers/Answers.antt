@@ -1,10 +1,4 @@
-use Rattle.std.proofs.Common.{rules, arith, ◌≡◌, ℕ, [], length, ap, ap₂, sym, subst, ◌∙◌}
-use Rattle.sand_model.specs.Grid.{sites}
-use Rattle.sand_shared.specs.Passes.{PassView}
-use Rattle.sand_shared.specs.Rows.{no_rows}
-use Rattle.sand_lab.specs.declared.droppers.Dropper.{Dropper}
-use Rattle.sand_lab.specs.Crews.{EachAt, IsDropper}
-use Rattle.sand_lab.specs.Streams.{Reading}
+use Rattle.sand_lab.proofs.Common.{rules, arith, ◌≡◌, ℕ, [], length, ap, ap₂, sym, subst, ◌∙◌, sites, PassView, no_rows, Dropper, EachAt, IsDropper, Reading}
 use Rattle.sand_lab.proofs.EachAtItsPlace.{each_push}
 use Rattle.sand_lab.proofs.hiring.hire_droppers.Goals as goal
 

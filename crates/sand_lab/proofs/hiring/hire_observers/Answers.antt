@@ -1,8 +1,4 @@
-use Rattle.std.proofs.Common.{rules, ◌≡◌, ℕ, [], length, ap, sym, subst, ◌∙◌}
-use Rattle.sand_shared.specs.Passes.{PassView}
-use Rattle.sand_shared.specs.Rows.{no_rows}
-use Rattle.sand_lab.specs.declared.observers.Observer.{Observer}
-use Rattle.sand_lab.specs.Crews.{EachAt, IsObserver}
+use Rattle.sand_lab.proofs.Common.{rules, ◌≡◌, ℕ, [], length, ap, sym, subst, ◌∙◌, PassView, no_rows, Observer, EachAt, IsObserver}
 use Rattle.sand_lab.proofs.EachAtItsPlace.{each_push}
 use Rattle.sand_lab.proofs.hiring.hire_observers.Goals as goal
 

@@ -1,5 +1,4 @@
-use Rattle.std.proofs.Common.{◌≡◌, ◌≤◌, vec_len, vec_capacity}
-use Rattle.sand_lab.specs.Crews.{EachAt, IsObserver, rowless}
+use Rattle.sand_lab.proofs.Common.{◌≡◌, ◌≤◌, vec_len, vec_capacity, EachAt, IsObserver, rowless}
 use Rattle.sand_lab.proofs.hiring.hire_observers.Given as goal
 
 abbrev pub invariant-loop-who : goal.invariant-loop-who

@@ -1,11 +1,4 @@
-use Rattle.std.proofs.Common.{rules, arith, ◌≡◌, ℕ, suc, ◌+◌, ◌-◌, ◌*◌, ◌/◌, [], take, drop, refl, ap, ap₂, sym, subst, ◌∙◌}
-use Rattle.std.proofs.Math.Nat.{mul-div_cancel_left}
-use Rattle.sand_model.specs.Grid.{Grid}
-use Rattle.sand_shared.specs.OpenPile.{grid_of_terms}
-use Rattle.sand_shared.specs.Passes.{PassView, sites_kept}
-use Rattle.sand_shared.specs.Rows.{upper_rows, lower_rows, rows_between}
-use Rattle.sand_lab.specs.declared.workers.Worker.{Worker}
-use Rattle.sand_lab.specs.Crews.{EachAt, IsWorker, banded, upper_part}
+use Rattle.sand_lab.proofs.Common.{rules, arith, ◌≡◌, ℕ, suc, ◌+◌, ◌-◌, ◌*◌, ◌/◌, [], take, drop, refl, ap, ap₂, sym, subst, ◌∙◌, mul-div_cancel_left, Grid, grid_of_terms, PassView, sites_kept, upper_rows, lower_rows, rows_between, Worker, EachAt, IsWorker, banded, upper_part}
 use Rattle.sand_lab.proofs.EachAtItsPlace.{each_first, each_none}
 use Rattle.sand_lab.proofs.RowsInBands.{band_split, band_left}
 use Rattle.sand_lab.proofs.hiring.hire_workers.Goals as goal

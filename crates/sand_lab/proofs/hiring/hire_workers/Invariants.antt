@@ -1,6 +1,4 @@
-use Rattle.std.proofs.Common.{◌≡◌, ◌+◌, ◌-◌, ◌*◌, ◌/◌, vec_len}
-use Rattle.sand_shared.specs.OpenPile.{grid_of_terms}
-use Rattle.sand_lab.specs.Crews.{EachAt, IsWorker, upper_part}
+use Rattle.sand_lab.proofs.Common.{◌≡◌, ◌+◌, ◌-◌, ◌*◌, ◌/◌, vec_len, grid_of_terms, EachAt, IsWorker, upper_part}
 use Rattle.sand_lab.proofs.hiring.hire_workers.Given as goal
 
 abbrev pub invariant-loop-done : goal.invariant-loop-done

@@ -1,5 +1,4 @@
-use Rattle.std.proofs.Common.{◌≡◌, ◌≤◌, take, length, vec_capacity}
-use Rattle.sand_lab.specs.Journals.{sites_in}
+use Rattle.sand_lab.proofs.Common.{◌≡◌, ◌≤◌, take, length, vec_capacity, sites_in}
 use Rattle.sand_lab.proofs.journal.history_of.Given as goal
 
 abbrev pub invariant-loop-entry : goal.invariant-loop-entry

@@ -1,8 +1,4 @@
-use Rattle.std.proofs.Common.{◌≡◌, ◌*◌, length, vec_len, Some, ap, sym, subst, ◌∙◌, arith}
-use Rattle.std.proofs.lemmas.List.{length-map}
-use Rattle.std.specs.Prelude.{slice_get}
-use Rattle.sand_shared.specs.Passes.{AllBelow}
-use Rattle.sand_lab.specs.Journals.{flattened, lists}
+use Rattle.sand_lab.proofs.Common.{◌≡◌, ◌*◌, length, vec_len, Some, ap, sym, subst, ◌∙◌, arith, length-map, slice_get, AllBelow, flattened, lists}
 use Rattle.sand_lab.proofs.EntriesAtNumbers.{NotedBelow, part_at, part_below, noted_more, all_noted}
 use Rattle.sand_lab.proofs.JournalFollowsStreams.{ascends}
 use Rattle.sand_lab.proofs.journal.write_journal.Goals as goal

@@ -1,5 +1,4 @@
-use Rattle.std.proofs.Common.{◌≡◌, ◌*◌, vec_len}
-use Rattle.sand_lab.specs.Journals.{flattened, lists}
+use Rattle.sand_lab.proofs.Common.{◌≡◌, ◌*◌, vec_len, flattened, lists}
 use Rattle.sand_lab.proofs.EntriesAtNumbers.{NotedBelow}
 use Rattle.sand_lab.proofs.journal.write_journal.Given as goal
 

@@ -1,8 +1,4 @@
-use Rattle.std.proofs.Common.{◌≡◌, get_or, Some, ap, ◌∙◌, arith}
-use Rattle.std.proofs.lemmas.Option.{slice_get-get_or, get_or_from_slice_get, slice_get_within}
-use Rattle.std.specs.Prelude.{slice_get}
-use Rattle.sand_shared.specs.declared.view.Receipt.{Receipt}
-use Rattle.sand_shared.specs.Events.{receipt}
+use Rattle.sand_lab.proofs.Common.{◌≡◌, get_or, Some, ap, ◌∙◌, arith, slice_get-get_or, get_or_from_slice_get, slice_get_within, slice_get, Receipt, receipt}
 use Rattle.sand_lab.proofs.EntriesAtNumbers.{part_more, else_more}
 use Rattle.sand_lab.proofs.journal.write_part.Goals as goal
 

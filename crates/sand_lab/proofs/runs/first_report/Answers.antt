@@ -1,8 +1,5 @@
-use Rattle.std.proofs.Common.{ℕ, ◌*◌, sum, sym, ap, ap₂, subst, arith}
+use Rattle.sand_lab.proofs.Common.{ℕ, ◌*◌, sum, sym, ap, ap₂, subst, arith, PileView, quota_of, IsReportOf}
 use Rattle.std.proofs.lemmas.Result.{IfOk-weaker}
-use Rattle.sand_model.specs.Piles.{PileView}
-use Rattle.sand_plan.specs.Plans.{quota_of}
-use Rattle.sand_lab.specs.Reports.{IsReportOf}
 use Rattle.sand_lab.proofs.OneEpochMore.{report_first, closed_drops, first_and_later}
 use Rattle.sand_lab.proofs.runs.first_report.Goals as goal
 

@@ -1,7 +1,4 @@
-use Rattle.std.proofs.Common.{ℕ, ◌+◌, ◌*◌, ◌<◌, ap, ap₂, arith, refl, sum, sym, ◌∙◌}
-use Rattle.sand_model.specs.Piles.{most_grains}
-use Rattle.sand_plan.specs.declared.wish.Wish.{Wish}
-use Rattle.sand_plan.specs.Plans.{all_drops}
+use Rattle.sand_lab.proofs.Common.{ℕ, ◌+◌, ◌*◌, ◌<◌, ap, ap₂, arith, refl, sum, sym, ◌∙◌, most_grains, Wish, all_drops}
 use Rattle.sand_lab.proofs.runs.run.Goals as goal
 
 pub run_all-requires-clause-places : goal.run_all-requires-clause-places

@@ -1,7 +1,4 @@
-use Rattle.std.proofs.Common.{◌≡◌, sum, ap, ◌∙◌, subst, arith}
-use Rattle.sand_model.specs.Piles.{PileView}
-use Rattle.sand_shared.specs.Record.{RecordView}
-use Rattle.sand_lab.specs.Reports.{IsEpoch, IsReportOf}
+use Rattle.sand_lab.proofs.Common.{◌≡◌, sum, ap, ◌∙◌, subst, arith, PileView, RecordView, IsEpoch, IsReportOf}
 use Rattle.sand_lab.proofs.OneEpochMore.{report_more, epoch_drops, room_for_epoch}
 use Rattle.sand_lab.proofs.runs.run_all.Goals as goal
 

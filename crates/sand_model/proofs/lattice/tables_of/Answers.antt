@@ -1,12 +1,11 @@
-use Rattle.std.proofs.Common.{rules, ◌≡◌, ℕ, ◌+◌, ◌<◌, ◌≤◌, List, [], ◌∷◌, ◌++◌, ◌∙◌, ap, arith, length, get_or, ⊎_elim}
-use Rattle.std.proofs.lemmas.Bool.{cases_lt}
-use Rattle.std.proofs.lemmas.List.{get_or_push, get_or_append_left}
-use Rattle.std.proofs.lemmas.Nat.{mod_below}
-use Rattle.sand_model.specs.Grid.{column, row}
+-- The column and the row that are counted are those of the site to be written. Only if the column reaches the width
+-- does a new row begin (`next_row`); otherwise the next site is in the same row (`same_row`).
+use Rattle.sand_model.proofs.Common.{rules, ◌≡◌, ℕ, ◌+◌, ◌<◌, ◌≤◌, List, [], ◌∷◌, ◌++◌, ◌∙◌, ap, arith, length, get_or, ⊎_elim, cases_lt, get_or_push, get_or_append_left, mod_below, column, row}
 use Rattle.sand_model.proofs.Borders.{next_row, same_row}
 use Rattle.sand_model.proofs.lattice.tables_of.Goals as goal
 use Rattle.sand_model.proofs.lattice.tables_of.Goals.{then-column-width, else-column-width}
 
+-- the column and the row of the next site, whichever branch was taken
 next_place : (c : goal.Joined-column-width)
     → (c.if-column-width.column ≡ column c.args.shape (c.loop.counter + 1))
     × (c.if-column-width.row ≡ row c.args.shape (c.loop.counter + 1))
@@ -25,6 +24,7 @@ next_place c =
           (omega (arith, next.0, w.column-is, inv.column_is), omega (arith, next.1, w.row-is, inv.row_is)))
     ]
 
+-- a list of f at the numbers below n, after f n is pushed
 one_more : (f : ℕ → ℕ) (xs ys : List ℕ) (n x : ℕ) → ys ≡ xs ++ x ∷ []
     → length xs ≡ n → x ≡ f n → ((i : ℕ) → i < n → get_or xs i 0 ≡ f i)
     → (i : ℕ) → i < n + 1 → get_or ys i 0 ≡ f i

@@ -1,5 +1,4 @@
-use Rattle.std.proofs.Common.{◌≡◌, ℕ, ◌<◌, get_or, vec_len, vec_capacity}
-use Rattle.sand_model.specs.Grid.{sites, column, row}
+use Rattle.sand_model.proofs.Common.{◌≡◌, ℕ, ◌<◌, get_or, vec_len, vec_capacity, sites, column, row}
 use Rattle.sand_model.proofs.lattice.tables_of.Given as goal
 
 abbrev pub invariant-loop : goal.invariant-loop

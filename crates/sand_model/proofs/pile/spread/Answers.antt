@@ -1,5 +1,6 @@
-use Rattle.std.proofs.Common.{ℕ, ◌∙◌, arith}
-use Rattle.std.proofs.lemmas.List.{length-set}
+-- Each place is in the grid or outside (`place_inside`), and four gifts are one toppling (`spread_toppled`). What the
+-- sum of the heights loses follows from the balance alone: it falls into the sink (`spread_sum`).
+use Rattle.sand_model.proofs.Common.{ℕ, ◌∙◌, arith, length-set}
 use Rattle.sand_model.proofs.Neighbours.{place_inside}
 use Rattle.sand_model.proofs.Heights.{spread_toppled, spread_sum, toppled_once}
 use Rattle.sand_model.proofs.pile.spread.Goals as goal

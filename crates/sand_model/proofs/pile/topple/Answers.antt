@@ -1,5 +1,6 @@
-use Rattle.std.proofs.Common.{drop, length, arith, sum, ap}
-use Rattle.std.proofs.lemmas.List.{take_at}
+-- The heights are lent as a slice and come back as the whole vector (`take_at`). The pile's count of grains stays the
+-- sum of its heights, since both fall by the places that are outside the grid.
+use Rattle.sand_model.proofs.Common.{drop, length, arith, sum, ap, take_at}
 use Rattle.sand_model.proofs.pile.topple.Goals as goal
 
 pub overflow_sub-pile : goal.overflow_sub-pile

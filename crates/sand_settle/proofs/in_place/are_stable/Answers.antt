@@ -1,5 +1,4 @@
-use Rattle.std.proofs.Common.{ℕ, ◌≡◌, ◌<◌, ◌≤◌, arith, get_or, ⊎_elim}
-use Rattle.std.proofs.lemmas.Bool.{and_parts, cases_lt, ltb-true}
+use Rattle.sand_settle.proofs.Common.{ℕ, ◌≡◌, ◌<◌, ◌≤◌, arith, get_or, ⊎_elim, and_parts, cases_lt, ltb-true}
 use Rattle.sand_settle.proofs.in_place.are_stable.Goals as goal
 
 pub loop-height-preserved : goal.loop-height-preserved

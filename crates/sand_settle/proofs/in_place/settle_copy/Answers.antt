@@ -1,6 +1,4 @@
-use Rattle.std.proofs.Common.{◌∙◌, ap, subst, get_or}
-use Rattle.sand_model.specs.Piles.{PileView, height_of}
-use Rattle.sand_settle.specs.Settling.{IsSettledRecord}
+use Rattle.sand_settle.proofs.Common.{◌∙◌, ap, subst, get_or, PileView, height_of, IsSettledRecord}
 use Rattle.sand_settle.proofs.Records.{same_record}
 use Rattle.sand_settle.proofs.in_place.settle_copy.Goals as goal
 

@@ -1,5 +1,6 @@
-use Rattle.std.proofs.Common.{◌∙◌, refl, arith, subst, sym}
-use Rattle.sand_settle.specs.Settling.{IsSettledRecord}
+-- The budget is over 2^54, so the queue has settled the pile (`ends`). The settled heights and the odometer determine
+-- the rest (`settles`).
+use Rattle.sand_settle.proofs.Common.{◌∙◌, refl, arith, subst, sym, IsSettledRecord}
 use Rattle.sand_settle.proofs.OneRecord.{same_parts}
 use Rattle.sand_settle.proofs.Records.{Settles, settles}
 use Rattle.sand_settle.proofs.in_place.settle_light.Goals.{In_ok-is_settled}

@@ -1,7 +1,5 @@
-use Rattle.std.proofs.Common.{◌∙◌, ap, arith, get_or}
-use Rattle.sand_model.proofs.Lists.{lists_length, lists_none, lists_more, lists_of}
-use Rattle.sand_model.specs.IndexLists.{ListView}
-use Rattle.sand_settle.specs.SiteLists.{may_topple}
+-- No site is listed twice, so there is room for each (`lists_length`).
+use Rattle.sand_settle.proofs.Common.{◌∙◌, ap, arith, get_or, lists_length, lists_none, lists_more, lists_of, ListView, may_topple}
 use Rattle.sand_settle.proofs.queue.list_unstable.Goals as goal
 
 pub push_if-requires-clause-room : goal.push_if-requires-clause-room

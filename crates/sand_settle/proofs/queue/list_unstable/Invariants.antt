@@ -1,6 +1,4 @@
-use Rattle.std.proofs.Common.{◌≡◌, get_or}
-use Rattle.sand_model.specs.Lists.{Lists}
-use Rattle.sand_settle.specs.SiteLists.{may_topple}
+use Rattle.sand_settle.proofs.Common.{◌≡◌, get_or, Lists, may_topple}
 use Rattle.sand_settle.proofs.queue.list_unstable.Given as goal
 
 abbrev pub invariant-loop-site : goal.invariant-loop-site

@@ -1,16 +1,9 @@
-use Rattle.std.proofs.Common.{ℕ, List, ◌∷◌, ◌++◌, ◌≡◌, ◌+◌, ◌-◌, ◌*◌, ◌/◌, ◌<◌, ◌≤◌, ◌∙◌, refl, sym, ap, arith, length, drop, sum, get_or}
+-- The rest of this generation and the next one are together a list of all unstable sites, each once (`waiting`). So
+-- the next site has 4 or more, and the next generation always has room. The topplings are legal, so the weight of the
+-- pile bounds the counts (`advances`).
+use Rattle.sand_settle.proofs.Common.{ℕ, List, ◌∷◌, ◌++◌, ◌≡◌, ◌+◌, ◌-◌, ◌*◌, ◌/◌, ◌<◌, ◌≤◌, ◌∙◌, refl, sym, ap, arith, length, drop, sum, get_or, append-nil, length-append, length-set, sites, at_most_sum_below, sites_limit, counted, toppled_times, Lists, front_below, lists_length, lists_of, waiting_behind, ListView, advances_on, may_topple}
 use Rattle.std.proofs.Math.ListN.{set}
-use Rattle.std.proofs.lemmas.List.{append-nil, length-append, length-set}
 use Rattle.std.proofs.lemmas.List.Sums.{get_or-le-sum_by, sum_by-set}
-use Rattle.sand_model.specs.Grid.{sites}
-use Rattle.sand_model.proofs.Bounds.{at_most_sum_below, sites_limit}
-use Rattle.sand_model.proofs.Heights.{counted, toppled_times}
-use Rattle.sand_model.specs.Lists.{Lists}
-use Rattle.sand_model.proofs.Lists.{front_below, lists_length, lists_of}
-use Rattle.sand_model.proofs.IndexLists.{waiting_behind}
-use Rattle.sand_model.specs.IndexLists.{ListView}
-use Rattle.sand_model.proofs.Underway.{advances_on}
-use Rattle.sand_settle.specs.SiteLists.{may_topple}
 use Rattle.sand_settle.proofs.SiteLists.{front_is_high, others_wait, turn_of}
 use Rattle.sand_settle.proofs.Underway.{advance_turn, sum_falls}
 use Rattle.sand_settle.proofs.queue.topple_generation.Goals.{After-item-site}

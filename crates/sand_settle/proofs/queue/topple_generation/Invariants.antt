@@ -1,9 +1,4 @@
-use Rattle.std.proofs.Common.{◌≡◌, ◌+◌, ◌≤◌, ◌++◌, length, drop, get_or}
-use Rattle.sand_model.specs.Grid.{sites}
-use Rattle.sand_model.specs.Sand.{topplings}
-use Rattle.sand_model.specs.Lists.{Lists}
-use Rattle.sand_settle.specs.SiteLists.{may_topple}
-use Rattle.sand_model.specs.Underway.{Advances}
+use Rattle.sand_settle.proofs.Common.{◌≡◌, ◌+◌, ◌≤◌, ◌++◌, length, drop, get_or, sites, topplings, Lists, may_topple, Advances}
 use Rattle.sand_settle.proofs.queue.topple_generation.Given as goal
 
 abbrev pub invariant-loop-position : goal.invariant-loop-position

@@ -1,10 +1,7 @@
-use Rattle.std.proofs.Common.{ℕ, ◌≡◌, ◌+◌, ◌*◌, ◌^◌, ◌<◌, ◌∙◌, [], ap, arith, length, get_or}
-use Rattle.std.proofs.lemmas.List.{nil_from_length}
-use Rattle.sand_model.specs.Grid.{sites}
-use Rattle.sand_model.specs.Sand.{topplings, weight}
-use Rattle.sand_model.proofs.Lists.{lists_of}
-use Rattle.sand_model.proofs.Underway.{underway_start, underway_end, advances_on}
-use Rattle.sand_model.specs.IndexLists.{ListView}
+-- If no site waits, the pile is stable, and legal topplings that lead there are the least (`underway_end`). Each turn
+-- is a toppling at least, so no more is spent of the budget than sites topple (`spent`): less than 2^54, by the weight
+-- of the start (`few_at_first`).
+use Rattle.sand_settle.proofs.Common.{ℕ, ◌≡◌, ◌+◌, ◌*◌, ◌^◌, ◌<◌, ◌∙◌, [], ap, arith, length, get_or, nil_from_length, sites, topplings, weight, lists_of, underway_start, underway_end, advances_on, ListView}
 use Rattle.sand_settle.proofs.SiteLists.{all_low}
 use Rattle.sand_settle.proofs.Underway.{sum_falls, few_at_first, zero_at}
 use Rattle.sand_settle.proofs.queue.topple_generations.Goals.{After-fill}
@@ -13,6 +10,7 @@ use Rattle.sand_settle.proofs.queue.topple_generations.Goals as goal
 uncounted : (c : After-fill) → (j : ℕ) → get_or c.fill.new.self j 0 ≡ 0
 uncounted c j = zero_at (length c.args.counts.now) j _ (c.fill.ensures.after (λ y e. e))
 
+-- the weight of the start bounds the topplings to come
 pays : (c : After-fill) → 2 * topplings c.args.lattice.now (λ j. get_or c.fill.new.self j 0)
     + weight c.args.lattice.now (λ j. get_or c.args.heights.now j 0) < 2 ^ 55
 pays c = few_at_first c.args.lattice.now (λ j. get_or c.fill.new.self j 0) c.args.heights.now

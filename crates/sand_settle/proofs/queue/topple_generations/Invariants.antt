@@ -1,9 +1,4 @@
-use Rattle.std.proofs.Common.{◌≡◌, ◌+◌, ◌≤◌, length, get_or}
-use Rattle.sand_model.specs.Grid.{sites}
-use Rattle.sand_model.specs.Sand.{topplings, weight}
-use Rattle.sand_model.specs.Lists.{Lists}
-use Rattle.sand_settle.specs.SiteLists.{may_topple}
-use Rattle.sand_model.specs.Underway.{Advances}
+use Rattle.sand_settle.proofs.Common.{◌≡◌, ◌+◌, ◌≤◌, length, get_or, sites, topplings, weight, Lists, may_topple, Advances}
 use Rattle.sand_settle.proofs.queue.topple_generations.Given as goal
 
 abbrev pub invariant-generations : goal.invariant-generations

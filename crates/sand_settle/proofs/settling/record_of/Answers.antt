@@ -1,7 +1,6 @@
-use Rattle.std.proofs.Common.{◌-◌, ◌∙◌, ap, arith, refl, subst, sum, sym}
-use Rattle.sand_model.specs.Piles.{PileView, height_of}
-use Rattle.sand_model.proofs.Heights.{sum_is_grains}
-use Rattle.sand_settle.specs.Settling.{IsSettledRecord, SettledView}
+-- The settled heights and the odometer determine the rest (`settles`): the grains that the pile no longer has are
+-- lost, and twice the topplings are at most the weight of the start, so their sum fits.
+use Rattle.sand_settle.proofs.Common.{◌-◌, ◌∙◌, ap, arith, refl, subst, sum, sym, PileView, height_of, sum_is_grains, IsSettledRecord, SettledView}
 use Rattle.sand_settle.proofs.Drops.{grains_kept}
 use Rattle.sand_settle.proofs.OneRecord.{same_parts, some_record}
 use Rattle.sand_settle.proofs.Records.{Settles, settles}
@@ -22,6 +21,7 @@ overflow_sub-lost c =
     let heights = ap (λ (p : PileView). sum p.heights) c.from_vec-settled.ensures in
     omega (arith, all.left, c.grains-before.ensures.value, c.grains.ensures.value)
 
+-- the record, with the grains lost as the code computes them
 made : (c : After-grains) → IsSettledRecord c.args.pile.now.grid (height_of c.args.pile.now) (record {
   pile = c.from_vec-settled.result;
   odometer = c.args.rest.odometer.items;

@@ -1,6 +1,7 @@
-use Rattle.std.proofs.Common.{◌*◌, ap, arith}
+-- The four places are the neighbours and what is outside the grid (`four_places`). At each at most one site joins the
+-- list (`joins_more`).
+use Rattle.sand_settle.proofs.Common.{◌*◌, ap, arith, joins_more}
 use Rattle.sand_model.proofs.Flow.{four_places}
-use Rattle.sand_model.proofs.IndexLists.{joins_more}
 use Rattle.sand_settle.proofs.spreading.deliver_four.Goals as goal
 
 pub returns-clause-each : goal.returns-clause-each

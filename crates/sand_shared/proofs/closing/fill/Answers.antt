@@ -1,8 +1,6 @@
-use Rattle.std.proofs.Common.{◌≡◌, Some, ◌∙◌, arith, length-set}
-use Rattle.std.specs.Prelude.{slice_get}
-use Rattle.sand_shared.specs.declared.view.Receipt.{Receipt}
-use Rattle.sand_shared.specs.Events.{receipt}
-use Rattle.std.proofs.lemmas.List.Elements.{All-from_get_or}
+-- No two receipts have the same number, so none overwrites the site of another (`told_more`).
+use Rattle.sand_shared.proofs.Common.{◌≡◌, Some, ◌∙◌, arith, slice_get, Receipt, receipt, All-from_get_or}
+use Rattle.std.proofs.Common.{length-set}
 use Rattle.sand_shared.proofs.ReceiptsTellHistory.{told_more}
 use Rattle.sand_shared.proofs.closing.fill.Goals as goal
 

@@ -1,6 +1,4 @@
-use Rattle.std.proofs.Common.{◌≡◌, ℕ, ◌<◌, Some, length, get_or}
-use Rattle.std.specs.Prelude.{slice_get}
-use Rattle.sand_shared.specs.Events.{receipt}
+use Rattle.sand_shared.proofs.Common.{◌≡◌, ℕ, ◌<◌, Some, length, get_or, slice_get, receipt}
 use Rattle.sand_shared.proofs.closing.fill.Given as goal
 
 abbrev pub invariant-loop-receipt : goal.invariant-loop-receipt

@@ -1,9 +1,5 @@
-use Rattle.std.proofs.Common.{ℕ, List, length, sym, ap, ◌+◌, ◌∙◌, refl, arith}
-use Rattle.std.specs.Prelude.{slice_index}
-use Rattle.sand_model.specs.Piles.{PileView, height_of}
-use Rattle.sand_model.specs.Sand.{occurrences}
-use Rattle.sand_model.proofs.Sandpile.{settled_same}
-use Rattle.sand_settle.specs.Settling.{odometer_of}
+-- That counts and rest add up to the least odometer is required (`IsCompleted`); here they are added, as lists.
+use Rattle.sand_shared.proofs.Common.{ℕ, List, length, sym, ap, ◌+◌, ◌∙◌, refl, arith, slice_index, PileView, height_of, occurrences, settled_same, odometer_of}
 use Rattle.sand_shared.proofs.completing.record_of.Goals as goal
 
 pub add-requires-clause-fits : goal.add-requires-clause-fits

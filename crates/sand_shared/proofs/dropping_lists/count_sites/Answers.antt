@@ -1,6 +1,6 @@
-use Rattle.std.proofs.Common.{◌≡◌, ℕ, ◌+◌, ◌<◌, length, get_or, set, take, sym, ◌∙◌, subst, arith, length-set}
-use Rattle.std.specs.Prelude.{slice_index}
-use Rattle.sand_model.specs.Sand.{occurrences}
+-- Each count is that of the entries so far (`counted`), so none is over their number (`occurrences_small`).
+use Rattle.sand_shared.proofs.Common.{◌≡◌, ℕ, ◌+◌, ◌<◌, length, get_or, set, take, sym, ◌∙◌, subst, arith, slice_index, occurrences}
+use Rattle.std.proofs.Common.{length-set}
 use Rattle.sand_shared.proofs.HandAfterPlacing.{read_count, counted_more, occurrences_small}
 use Rattle.sand_shared.proofs.dropping_lists.count_sites.Goals as goal
 use Rattle.sand_shared.proofs.dropping_lists.count_sites.Goals.{After-index_mut}

@@ -1,5 +1,4 @@
-use Rattle.std.proofs.Common.{◌≡◌, ℕ, ◌<◌, take, length, get_or}
-use Rattle.sand_model.specs.Sand.{occurrences}
+use Rattle.sand_shared.proofs.Common.{◌≡◌, ℕ, ◌<◌, take, length, get_or, occurrences}
 use Rattle.sand_shared.proofs.dropping_lists.count_sites.Given as goal
 
 abbrev pub invariant-drops : goal.invariant-drops

@@ -1,7 +1,6 @@
-use Rattle.std.proofs.Common.{◌≡◌, ◌+◌, List, [], ◌∷◌, ◌++◌, drop, length, get_or, sym, ap, ◌∙◌, arith, length-append}
-use Rattle.std.proofs.lemmas.List.{drop_all, drop_more, append-nil, append_assoc}
-use Rattle.sand_shared.specs.declared.view.Receipt.{Receipt}
-use Rattle.sand_shared.specs.Events.{receipt, receipts_from}
+-- The receipts so far and those of the rest of the list, from the next number on, are together always the same
+-- (`rest`).
+use Rattle.sand_shared.proofs.Common.{◌≡◌, ◌+◌, List, [], ◌∷◌, ◌++◌, drop, length, get_or, sym, ap, ◌∙◌, arith, length-append, drop_all, drop_more, append-nil, append_assoc, Receipt, receipt, receipts_from}
 use Rattle.sand_shared.proofs.dropping_lists.note.Goals as goal
 
 pub drops-preserved : goal.drops-preserved

@@ -1,5 +1,4 @@
-use Rattle.std.proofs.Common.{◌≡◌, ◌+◌, ◌++◌, drop, length, vec_capacity}
-use Rattle.sand_shared.specs.Events.{receipts_from}
+use Rattle.sand_shared.proofs.Common.{◌≡◌, ◌+◌, ◌++◌, drop, length, vec_capacity, receipts_from}
 use Rattle.sand_shared.proofs.dropping_lists.note.Given as goal
 
 abbrev pub invariant-drops : goal.invariant-drops

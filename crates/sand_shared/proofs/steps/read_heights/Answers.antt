@@ -1,5 +1,4 @@
-use Rattle.std.proofs.Common.{◌+◌, [], ◌∷◌, length, arith, ap, ◌∙◌, length-append}
-use Rattle.std.proofs.lemmas.Grind.{common_steps}
+use Rattle.sand_shared.proofs.Common.{◌+◌, [], ◌∷◌, length, arith, ap, ◌∙◌, length-append, common_steps}
 use Rattle.std.specs.Mem.Slots.{slots_items}
 use Rattle.sand_shared.proofs.StepsAreEvents.{some_there}
 use Rattle.sand_shared.proofs.steps.read_heights.Goals as goal

@@ -1,6 +1,5 @@
-use Rattle.std.proofs.Common.{arith, ◌∙◌}
+use Rattle.sand_text.proofs.Common.{arith, ◌∙◌, usual}
 use Rattle.sand_text.proofs.Large.{large_start, one_byte, found_large, none_large}
-use Rattle.sand_text.proofs.Usual.{usual}
 use Rattle.sand_text.proofs.bytes.has_large.Goals as goal
 
 pub loop-byte-init : goal.loop-byte-init

@@ -1,8 +1,6 @@
-use Rattle.std.proofs.Common.{◌≡◌, ◌≤◌}
-use Rattle.sand_text.specs.Bytes.{has_large}
+use Rattle.sand_text.proofs.Common.{◌≡◌, ◌≤◌, has_large, most_grains}
 use Rattle.sand_text.proofs.Large.{large_from}
 use Rattle.sand_text.proofs.bytes.has_large.Given as goal
-use Rattle.sand_model.specs.Piles.{most_grains}
 
 abbrev pub invariant-loop-byte : goal.invariant-loop-byte
 invariant-loop-byte l = record {

@@ -1,5 +1,4 @@
-use Rattle.std.proofs.Common.{not}
-use Rattle.sand_text.specs.Bytes.{is_space}
+use Rattle.sand_text.proofs.Common.{not, is_space}
 use Rattle.sand_text.proofs.Cuts.{unwrap_position}
 use Rattle.sand_text.proofs.bytes.space_len.Goals as goal
 

@@ -1,6 +1,5 @@
-use Rattle.std.proofs.Common.{arith, below_more, sym, ◌∙◌}
+use Rattle.sand_text.proofs.Common.{arith, below_more, sym, ◌∙◌, usual}
 use Rattle.sand_text.proofs.Spans.{token_ends, more_digits, no_more_digits, digits_ended, more_value}
-use Rattle.sand_text.proofs.Usual.{usual}
 use Rattle.sand_text.proofs.bytes.span_of.Goals as goal
 use Rattle.sand_text.proofs.bytes.span_of.Goals.{then-is_digit+then-digits-len, else-is_digit, else-is_digit-via-then-is_digit+else-digits-len, else-is_digit-via-else-is_digit}
 

@@ -1,6 +1,4 @@
-use Rattle.std.proofs.Common.{◌≡◌, ℕ, ◌<◌, take, get_or, false}
-use Rattle.std.specs.Str.Parse.{digits_value}
-use Rattle.sand_text.specs.Bytes.{is_space, digits_len, capped}
+use Rattle.sand_text.proofs.Common.{◌≡◌, ℕ, ◌<◌, take, get_or, false, digits_value, is_space, digits_len, capped}
 use Rattle.sand_text.proofs.bytes.span_of.Given as goal
 
 abbrev pub invariant-loop-len : goal.invariant-loop-len

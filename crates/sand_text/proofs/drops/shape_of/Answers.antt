@@ -1,10 +1,7 @@
-use Rattle.std.proofs.Common.{arith, inl, refl}
-use Rattle.std.proofs.lemmas.Result.{err_from_is_err_and}
+use Rattle.sand_text.proofs.Common.{arith, inl, refl, err_from_is_err_and, tokens, usual}
 use Rattle.sand_text.specs.Reading.{front_of, drops_of}
-use Rattle.sand_text.specs.Tokens.{tokens}
 use Rattle.sand_text.proofs.Shapes.{count_at_end}
 use Rattle.sand_text.proofs.Readings.{no_site_is, drop_count, one_each}
-use Rattle.sand_text.proofs.Usual.{usual}
 use Rattle.sand_text.proofs.drops.shape_of.Goals as goal
 
 pub returns-in_err-survey-clause-err : goal.returns-in_err-survey-clause-err

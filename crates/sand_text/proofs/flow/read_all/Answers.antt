@@ -1,7 +1,5 @@
-use Rattle.std.proofs.Common.{◌+◌, take, length, arith}
-use Rattle.std.proofs.lemmas.List.{length-take}
+use Rattle.sand_text.proofs.Common.{◌+◌, take, length, arith, length-take, usual}
 use Rattle.sand_text.proofs.Streams.{further, any_fault}
-use Rattle.sand_text.proofs.Usual.{usual}
 use Rattle.sand_text.proofs.flow.read_all.Goals as goal
 
 pub returns-then-count-len-clause-too_long : goal.returns-then-count-len-clause-too_long

@@ -1,5 +1,4 @@
-use Rattle.std.proofs.Common.{length, ◌-◌, ◌≤◌, vec_len}
-use Rattle.std.specs.Io.KnownBytes.{Consumes}
+use Rattle.sand_text.proofs.Common.{length, ◌-◌, ◌≤◌, vec_len, Consumes}
 use Rattle.sand_text.proofs.flow.read_all.Given as goal
 
 abbrev pub invariant-reading : goal.invariant-reading

@@ -1,7 +1,4 @@
-use Rattle.std.proofs.Common.{arith}
-use Rattle.std.proofs.Math.Seq.{take-add}
-use Rattle.std.proofs.KnownBytes.{Appends-trans}
-use Rattle.sand_text.proofs.Usual.{usual}
+use Rattle.sand_text.proofs.Common.{arith, take-add, Appends-trans, usual}
 use Rattle.sand_text.proofs.flow.write_text.Goals as goal
 
 pub writing-preserved : goal.writing-preserved

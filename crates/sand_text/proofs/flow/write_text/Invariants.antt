@@ -1,5 +1,4 @@
-use Rattle.std.proofs.Common.{length, ◌-◌, ◌≤◌, take}
-use Rattle.std.specs.Io.KnownBytes.{Appends}
+use Rattle.sand_text.proofs.Common.{length, ◌-◌, ◌≤◌, take, Appends}
 use Rattle.sand_text.proofs.flow.write_text.Given as goal
 
 abbrev pub invariant-writing : goal.invariant-writing

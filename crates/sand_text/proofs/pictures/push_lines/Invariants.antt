@@ -1,6 +1,4 @@
-use Rattle.std.proofs.Common.{◌++◌}
-use Rattle.sand_text.specs.Texts.{row_text}
-use Rattle.sand_text.specs.Pictures.{lines_text}
+use Rattle.sand_text.proofs.Common.{◌++◌, row_text, lines_text}
 use Rattle.sand_text.proofs.Chunks.{IsBegun}
 use Rattle.sand_text.proofs.pictures.push_lines.Given as goal
 

@@ -1,9 +1,6 @@
-use Rattle.std.proofs.Common.{arith, refl}
-use Rattle.std.proofs.lemmas.Result.{err_from_is_err_and}
+use Rattle.sand_text.proofs.Common.{arith, refl, err_from_is_err_and, tokens, usual}
 use Rattle.sand_text.specs.Reading.{front_of, pile_of}
-use Rattle.sand_text.specs.Tokens.{tokens}
 use Rattle.sand_text.proofs.Readings.{one_each}
-use Rattle.sand_text.proofs.Usual.{usual}
 use Rattle.sand_text.proofs.piles.shape_of.Goals as goal
 
 pub returns-in_err-survey-clause-err : goal.returns-in_err-survey-clause-err

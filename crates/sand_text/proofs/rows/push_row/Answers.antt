@@ -1,6 +1,5 @@
-use Rattle.std.proofs.Common.{arith, append_assoc, append-nil}
+use Rattle.sand_text.proofs.Common.{arith, append_assoc, append-nil, usual}
 use Rattle.sand_text.proofs.RowSteps.{row_text-next, row_text-end}
-use Rattle.sand_text.proofs.Usual.{usual}
 use Rattle.sand_text.proofs.rows.push_row.Goals as goal
 
 pub loop-index-preserved : goal.loop-index-preserved

@@ -1,5 +1,4 @@
-use Rattle.std.proofs.Common.{◌≡◌, ◌++◌, ◌+◌, ◌*◌, ◌≤◌, drop, vec_len, vec_capacity}
-use Rattle.sand_text.specs.Texts.{row_text}
+use Rattle.sand_text.proofs.Common.{◌≡◌, ◌++◌, ◌+◌, ◌*◌, ◌≤◌, drop, vec_len, vec_capacity, row_text}
 use Rattle.sand_text.proofs.rows.push_row.Given as goal
 
 abbrev pub invariant-loop-index : goal.invariant-loop-index

@@ -1,6 +1,5 @@
-use Rattle.std.proofs.Common.{arith, append_assoc, append-nil}
+use Rattle.sand_text.proofs.Common.{arith, append_assoc, append-nil, usual}
 use Rattle.sand_text.proofs.RowSteps.{rows_text-next, rows_text-none, fewer_rows}
-use Rattle.sand_text.proofs.Usual.{usual}
 use Rattle.sand_text.proofs.rows.push_sites.Goals as goal
 
 pub rows-preserved : goal.rows-preserved

@@ -1,5 +1,4 @@
-use Rattle.std.proofs.Common.{◌≡◌, ◌++◌, ◌-◌, ◌*◌, length}
-use Rattle.sand_text.specs.Texts.{rows_text}
+use Rattle.sand_text.proofs.Common.{◌≡◌, ◌++◌, ◌-◌, ◌*◌, length, rows_text}
 use Rattle.sand_text.proofs.rows.push_sites.Given as goal
 
 abbrev pub invariant-rows : goal.invariant-rows

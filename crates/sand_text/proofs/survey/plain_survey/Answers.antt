@@ -1,7 +1,4 @@
-use Rattle.std.proofs.Common.{arith, sym, ◌∙◌, ap, refl}
-use Rattle.std.proofs.lemmas.Result.{err_from_is_err_and}
-use Rattle.sand_text.specs.Left.{tokens_left}
-use Rattle.sand_text.specs.Tokens.{tokens}
+use Rattle.sand_text.proofs.Common.{arith, sym, ◌∙◌, ap, refl, err_from_is_err_and, tokens_left, tokens}
 use Rattle.sand_text.proofs.Lengths.{few_numbers}
 use Rattle.sand_text.proofs.Readings.{plain_is, strange_text}
 use Rattle.sand_text.proofs.Surveying.{at_tokens}

@@ -1,6 +1,4 @@
-use Rattle.sand_text.specs.Left.{tokens_left}
-use Rattle.sand_text.specs.Tokens.{tokens}
-use Rattle.sand_text.specs.Surveys.{IsSurvey}
+use Rattle.sand_text.proofs.Common.{tokens_left, tokens, IsSurvey}
 use Rattle.sand_text.proofs.survey.plain_survey.Given as goal
 
 abbrev pub invariant-loop-token : goal.invariant-loop-token

@@ -1,11 +1,7 @@
-use Rattle.std.proofs.Common.{arith}
-use Rattle.std.proofs.lemmas.Bool.{both_ways}
-use Rattle.std.proofs.lemmas.Result.{err_from_is_err_and}
-use Rattle.sand_text.specs.Left.{tokens_left}
+use Rattle.sand_text.proofs.Common.{arith, both_ways, err_from_is_err_and, tokens_left, usual}
 use Rattle.sand_text.proofs.Lengths.{few_numbers}
 use Rattle.sand_text.proofs.Surveying.{at_tokens}
 use Rattle.sand_text.proofs.TwoWalks.{one_further, strange_in_first}
-use Rattle.sand_text.proofs.Usual.{usual}
 use Rattle.sand_text.proofs.two_piles.first_survey.Goals as goal
 
 pub pile-init : goal.pile-init

@@ -1,6 +1,4 @@
-use Rattle.std.proofs.Common.{length}
-use Rattle.sand_text.specs.Left.{tokens_left}
-use Rattle.sand_text.specs.Surveys.{IsSurvey, IsWithinPile}
+use Rattle.sand_text.proofs.Common.{length, tokens_left, IsSurvey, IsWithinPile}
 use Rattle.sand_text.proofs.two_piles.first_survey.Given as goal
 
 abbrev pub invariant-pile : goal.invariant-pile

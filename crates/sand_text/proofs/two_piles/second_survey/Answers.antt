@@ -1,11 +1,7 @@
-use Rattle.std.proofs.Common.{arith, ap, sym, ◌∙◌}
-use Rattle.std.proofs.lemmas.Result.{err_from_is_err_and}
-use Rattle.sand_text.specs.Left.{tokens_left}
-use Rattle.sand_text.specs.Bytes.{has_large}
+use Rattle.sand_text.proofs.Common.{arith, ap, sym, ◌∙◌, err_from_is_err_and, tokens_left, has_large, usual}
 use Rattle.sand_text.proofs.Lengths.{few_numbers}
 use Rattle.sand_text.proofs.Surveying.{at_tokens}
 use Rattle.sand_text.proofs.TwoWalks.{barred, strange_in_second, plain_second, still_open}
-use Rattle.sand_text.proofs.Usual.{usual}
 use Rattle.sand_text.proofs.two_piles.second_survey.Goals as goal
 
 pub loop-token-init : goal.loop-token-init

@@ -1,8 +1,4 @@
-use Rattle.std.proofs.Common.{◌≡◌, true}
-use Rattle.sand_model.specs.declared.shape.Edge.TheVariants.{Open}
-use Rattle.sand_text.specs.Left.{tokens_left}
-use Rattle.sand_text.specs.Bytes.{has_large}
-use Rattle.sand_text.specs.Surveys.{IsSurvey}
+use Rattle.sand_text.proofs.Common.{◌≡◌, true, Open, tokens_left, has_large, IsSurvey}
 use Rattle.sand_text.proofs.two_piles.second_survey.Given as goal
 
 abbrev pub invariant-loop-token : goal.invariant-loop-token

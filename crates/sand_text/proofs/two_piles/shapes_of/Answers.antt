@@ -1,12 +1,7 @@
-use Rattle.std.proofs.Common.{arith, ◌≡◌, ◌+◌, ◌≤◌, false, length, refl, sum, true}
-use Rattle.std.proofs.lemmas.Result.{err_from_is_err_and}
-use Rattle.sand_model.specs.Grid.{sites}
-use Rattle.sand_text.specs.Tokens.{tokens}
-use Rattle.sand_text.specs.Reading.{two_of, behind_heights, heights_behind}
-use Rattle.sand_text.specs.Surveys.{IsShaped}
+use Rattle.sand_text.proofs.Common.{arith, ◌≡◌, ◌+◌, ◌≤◌, false, length, refl, sum, true, err_from_is_err_and, sites, tokens, behind_heights, heights_behind, IsShaped, usual}
+use Rattle.sand_text.specs.Reading.{two_of}
 use Rattle.sand_text.proofs.Readings.{one_each}
 use Rattle.sand_text.proofs.TwoPiles.{misshapen_second, good_two, second_facts}
-use Rattle.sand_text.proofs.Usual.{usual}
 use Rattle.sand_text.proofs.two_piles.shapes_of.Goals.{In_ok-first_shape, In_ok-second_shape}
 use Rattle.sand_text.proofs.two_piles.shapes_of.Goals as goal
 

@@ -1,7 +1,4 @@
-use Rattle.std.proofs.Common.{refl, sym, ◌∙◌}
-use Rattle.std.proofs.lemmas.Result.{err_from_is_err_and}
-use Rattle.sand_text.specs.Left.{tokens_left}
-use Rattle.sand_text.specs.Bytes.{has_large}
+use Rattle.sand_text.proofs.Common.{refl, sym, ◌∙◌, err_from_is_err_and, tokens_left, has_large}
 use Rattle.sand_text.proofs.TwoPiles.{front_tokens, strange_first, strange_second, plain_two}
 use Rattle.sand_text.proofs.two_piles.two_surveys.Goals as goal
 

@@ -1,5 +1,4 @@
-use Rattle.std.proofs.Common.{arith}
-use Rattle.std.proofs.lemmas.Bool.{eqb-false}
+use Rattle.sand_tiles.proofs.Common.{arith, eqb-false}
 use Rattle.sand_tiles.proofs.Bits.{bit_le}
 use Rattle.sand_tiles.proofs.counting.count_set.Goals as goal
 

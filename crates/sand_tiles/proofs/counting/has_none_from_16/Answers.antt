@@ -1,7 +1,4 @@
-use Rattle.std.proofs.Common.{ℕ, ◌≡◌, ◌∙◌, ap, arith}
-use Rattle.std.proofs.lemmas.Bool.{eqb-true}
-use Rattle.std.specs.Prelude.{bit_or}
-use Rattle.sand_tiles.specs.Places.{bit}
+use Rattle.sand_tiles.proofs.Common.{ℕ, ◌≡◌, ◌∙◌, ap, arith, eqb-true, bit_or, bit}
 use Rattle.sand_tiles.proofs.Bits.{either, both_le, bit_none}
 use Rattle.sand_tiles.proofs.counting.has_none_from_16.Goals as goal
 

@@ -1,5 +1,6 @@
-use Rattle.std.proofs.Common.{rules, ℕ, ◌+◌, ◌<◌, ◌∙◌, arith, length, get_or}
-use Rattle.std.proofs.lemmas.Bool.{cases_eq}
+-- Each place is added once: before the loop comes to it, its entry in the list is the old one (`waiting`), so the
+-- bound on its count covers the addition.
+use Rattle.sand_tiles.proofs.Common.{rules, ℕ, ◌+◌, ◌<◌, ◌∙◌, arith, length, get_or, cases_eq}
 use Rattle.std.proofs.lemmas.List.{get_or-set_same, get_or-set_other}
 use Rattle.sand_tiles.proofs.counting.spill.Goals as goal
 

@@ -1,5 +1,4 @@
-use Rattle.std.proofs.Common.{arith}
-use Rattle.sand_tiles.specs.Places.{height}
+use Rattle.sand_tiles.proofs.Common.{arith, height}
 use Rattle.sand_tiles.proofs.Bits.{bit_le}
 use Rattle.sand_tiles.proofs.reading.eight_heights.Goals as goal
 

@@ -1,5 +1,5 @@
-use Rattle.std.proofs.Common.{refl, arith}
-use Rattle.std.proofs.lemmas.Nat.{le_or_l}
+-- A place that has had at most 7 with its gain, and comes to 4 now, was not due: so the union with `due` counts it.
+use Rattle.sand_tiles.proofs.Common.{refl, arith, le_or_l}
 use Rattle.sand_tiles.proofs.Bits.{at_place}
 use Rattle.sand_tiles.proofs.tile.receive.Goals as goal
 

@@ -1,6 +1,6 @@
-use Rattle.std.proofs.Common.{arith}
-use Rattle.std.specs.Prelude.{bit_and, bit_or}
-use Rattle.std.proofs.lemmas.Nat.{and_le_r, or_lt}
+-- The argument is in `Rounds`: the flood must topple (`flood_of`), the round keeps the visit (`visit_goes_on`), and
+-- the wave grows as a number (`wave_grows`). That it fits into 64 bits is needed for its complement.
+use Rattle.sand_tiles.proofs.Common.{arith, bit_and, bit_or, and_le_r, or_lt}
 use Rattle.sand_tiles.proofs.Rounds.{flood_of, visit_goes_on, wave_grows}
 use Rattle.sand_tiles.proofs.visiting.topple_due.Goals as goal
 

@@ -1,5 +1,5 @@
-use Rattle.std.proofs.Common.{◌-◌, ◌^◌}
-use Rattle.sand_tiles.specs.Places.{IsVisit}
+-- Each round topples only new places, so the wave grows as a number until nothing is due.
+use Rattle.sand_tiles.proofs.Common.{◌-◌, ◌^◌, IsVisit}
 use Rattle.sand_tiles.proofs.visiting.visit.Given as goal
 
 abbrev pub invariant-rounds : goal.invariant-rounds

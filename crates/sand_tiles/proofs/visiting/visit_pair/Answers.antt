@@ -1,5 +1,4 @@
-use Rattle.std.proofs.Common.{arith}
-use Rattle.std.proofs.lemmas.Nat.{le_or_l, le_or_r}
+use Rattle.sand_tiles.proofs.Common.{arith, le_or_l, le_or_r}
 use Rattle.sand_tiles.proofs.visiting.visit_pair.Goals as goal
 
 pub end-requires : goal.end-requires

@@ -1,5 +1,5 @@
-use Rattle.std.proofs.Common.{◌+◌, ◌-◌, ◌^◌}
-use Rattle.sand_tiles.specs.Places.{IsVisit}
+-- A round may change one tile only, if nothing is due in the other. So it is the sum of the two waves that grows.
+use Rattle.sand_tiles.proofs.Common.{◌+◌, ◌-◌, ◌^◌, IsVisit}
 use Rattle.sand_tiles.proofs.visiting.visit_pair.Given as goal
 
 abbrev pub invariant-rounds : goal.invariant-rounds

@@ -1,6 +1,7 @@
-use Rattle.std.proofs.Common.{ℕ, ◌≡◌, ◌+◌, ◌<◌, arith, ap, sym, refl, length, slice_index}
-use Rattle.std.proofs.lemmas.List.{length_push}
-use Rattle.sand_model.specs.Grid.{sites}
+-- A site burns in the step of its depth and not before (`AreLayers`). So its height plus its edges to lower depths is
+-- at least 4, and the excess is less than its edges that lead one step nearer: one of these is picked (`pick_some`).
+-- Directions that lead one step nearer are a tree (`tree_picked`).
+use Rattle.sand_trees.proofs.Common.{ℕ, ◌≡◌, ◌+◌, ◌<◌, arith, ap, sym, refl, length, slice_index, length_push, sites}
 use Rattle.sand_certify.proofs.Pushed.{pushed}
 use Rattle.sand_trees.specs.Trees.{depths_around, edges_below, edges_passed}
 use Rattle.sand_trees.proofs.Edges.{below_is, passed_is}
@@ -21,7 +22,7 @@ overflow_sub-heights c =
     let inside : site < sites g = omega (arith, c.sites-sites.ensures.value, ap sites c.shape.ensures.value) in
     let below = below_is g d site (d site) c.count_below-below.result c.depths_around-around.result
     c.depths_around-around.ensures c.count_below-below.ensures in
-    omega (arith, c.requires.layers.burns site inside)
+    omega (arith, c.requires.layers.burns site inside, c.from.ensures)
 
 pub pick-requires-clause-some : goal.pick-requires-clause-some
 pick-requires-clause-some c =
@@ -32,8 +33,8 @@ pick-requires-clause-some c =
     let low = c.requires.low site 0 (omega (arith, c.requires.heights)) in
     let below = below_is g d site (d site) c.count_below-below.result c.depths_around-around.result
     c.depths_around-around.ensures c.count_below-below.ensures in
-    pick_some g (slice_index c.args.heights.now) d site c.count_below-below.result _ c.depths_around-around.result
-    c.requires.layers inside low c.depths_around-around.ensures below refl
+    rw c.from.ensures (pick_some g (slice_index c.args.heights.now) d site c.count_below-below.result _ c.depths_around-around.result
+    c.requires.layers inside low c.depths_around-around.ensures below refl)
 
 pub loop-site-preserved : goal.loop-site-preserved
 loop-site-preserved c =
@@ -55,7 +56,7 @@ loop-site-preserved c =
       each = pushed (λ k n. (n < 4) × (slice_index (depths_around g d k) n + 1 ≡ d k)
           × (s k + edges_below g d k (d k) ≡ 4 + edges_passed g d k n))
           c.loop-site.directions.items _ site c.in_ok-push.ensures.items c.loop-site.invariant.len c.loop-site.invariant.each
-          (c.pick.ensures.inside, omega (arith, c.pick.ensures.found), omega arith);
+          (c.pick.ensures.inside, omega (arith, c.pick.ensures.found), omega (arith, c.from.ensures));
     }
 
 pub returns-clause-tree : goal.returns-clause-tree

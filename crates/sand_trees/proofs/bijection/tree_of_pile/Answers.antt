@@ -1,3 +1,4 @@
+-- All sites of a recurrent pile burn, each as soon as it may: so its burning times are layers (`layers_of_times`).
 use Rattle.std.proofs.Common.{◌∙◌}
 use Rattle.sand_trees.proofs.Times.{layers_of_times}
 use Rattle.sand_trees.proofs.bijection.tree_of_pile.Goals as goal

@@ -1,5 +1,5 @@
-use Rattle.std.proofs.Common.{◌∙◌, ap}
-use Rattle.sand_fronts.specs.Waves.{open_beside, beside_at, IsOpenRow}
+-- With open edges no tile is at a seam, so the number of tiles in a row tells all four neighbours (`beside_open`).
+use Rattle.sand_fronts.proofs.Common.{◌∙◌, ap, open_beside, beside_at, IsOpenRow}
 use Rattle.sand_fronts.proofs.Boards.{beside_open}
 use Rattle.sand_fronts.proofs.board.Board.beside.Goals as goal
 

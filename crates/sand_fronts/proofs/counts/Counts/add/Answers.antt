@@ -1,8 +1,6 @@
-use Rattle.std.proofs.Common.{refl, arith}
-use Rattle.std.specs.Vec.{with_item}
-use Rattle.std.proofs.lemmas.Grind.{common_steps}
-use Rattle.sand_tiles.proofs.Bits.{bit_le}
-use Rattle.sand_fronts.specs.Boards.{AddsSet}
+-- To count the set changes only the planes of this tile (`adds`), and if they are spilled then, no count changes
+-- (`adds_none`).
+use Rattle.sand_fronts.proofs.Common.{refl, arith, with_item, common_steps, bit_le, AddsSet}
 use Rattle.sand_fronts.proofs.Counted.{adds_at, adds_none}
 use Rattle.sand_fronts.proofs.counts.Counts.add.Goals.{After-count_set-is_full}
 use Rattle.sand_fronts.proofs.counts.Counts.add.Goals as goal

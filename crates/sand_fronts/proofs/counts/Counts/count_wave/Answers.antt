@@ -1,14 +1,8 @@
-use Rattle.std.proofs.Common.{ℕ, refl, ap, ◌≡◌, ◌*◌, length, arith}
-use Rattle.sand_model.specs.Sand.{sum_below}
-use Rattle.sand_tiles.specs.declared.tile.Tile.{Tile}
-use Rattle.sand_tiles.specs.Places.{bit, number}
-use Rattle.sand_tiles.proofs.Bits.{bit_none}
-use Rattle.sand_fronts.specs.Tiling.{tiles}
-use Rattle.sand_fronts.specs.Waves.{tile_at}
-use Rattle.sand_fronts.specs.Boards.{tiles_of}
+-- A tile without a turn to come in the list has no site in the wave (`listed`). So at the end of the list no tile has
+-- one (`none_in`), and the total is that of the whole wave (`over_none`).
+use Rattle.sand_fronts.proofs.Common.{ℕ, refl, ap, ◌≡◌, ◌*◌, length, arith, sum_below, Tile, bit, number, bit_none, tiles, tile_at, tiles_of, IsClear}
 use Rattle.sand_fronts.proofs.Counted.{counted_more, few_in_sets, few_over_wave, set_less, over_none, rest_in, none_in}
 use Rattle.sand_fronts.proofs.Gained.{tile_read}
-use Rattle.sand_fronts.specs.TileLists.{IsClear}
 use Rattle.sand_fronts.proofs.counts.Counts.count_wave.Goals as goal
 
 pub overflow_add-total : goal.overflow_add-total

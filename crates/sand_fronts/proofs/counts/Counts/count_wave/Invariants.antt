@@ -1,9 +1,4 @@
-use Rattle.std.proofs.Common.{◌≡◌, ◌+◌, length}
-use Rattle.sand_fronts.specs.Tiling.{tiles}
-use Rattle.sand_fronts.specs.TileLists.{AreListed}
-use Rattle.sand_fronts.specs.Waves.{tile_at}
-use Rattle.sand_fronts.specs.Counting.{in_wave, over_wave}
-use Rattle.sand_fronts.specs.Boards.{tiles_of, AreCounted}
+use Rattle.sand_fronts.proofs.Common.{◌≡◌, ◌+◌, length, tiles, AreListed, tile_at, in_wave, over_wave, tiles_of, AreCounted}
 use Rattle.sand_fronts.proofs.counts.Counts.count_wave.Given as goal
 
 abbrev pub invariant-loop-position : goal.invariant-loop-position

@@ -1,7 +1,6 @@
-use Rattle.std.proofs.Common.{arith}
-use Rattle.std.specs.Vec.{with_item}
-use Rattle.std.proofs.lemmas.Grind.{common_steps}
-use Rattle.sand_tiles.proofs.Bits.{bit_none}
+-- A tile without a list has nothing spilled, so lists of zeros change nothing. Then the counts of this tile move from
+-- its planes to its list and stay the same (`adds_at` with no set), and empty planes have room (`recent_none`).
+use Rattle.sand_fronts.proofs.Common.{arith, with_item, common_steps, bit_none}
 use Rattle.sand_fronts.proofs.Counted.{adds_at, recent_none}
 use Rattle.sand_fronts.proofs.counts.Counts.spill.Goals as goal
 

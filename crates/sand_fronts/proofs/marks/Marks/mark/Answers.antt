@@ -1,9 +1,6 @@
-use Rattle.std.proofs.Common.{arith, length}
-use Rattle.std.proofs.lemmas.Bool.Decides.{nat_tests}
-use Rattle.std.proofs.lemmas.Grind.{common_steps}
-use Rattle.std.proofs.lemmas.Nat.{le_or_l}
-use Rattle.sand_model.proofs.Lists.{lists_length}
-use Rattle.sand_fronts.specs.Marking.{has_mark}
+-- No tile is listed twice, so the list has room for one more (`lists_length`). A set only grows (`le_or_l`), so a tile
+-- joins the list once.
+use Rattle.sand_fronts.proofs.Common.{arith, length, nat_tests, common_steps, le_or_l, lists_length, has_mark}
 use Rattle.sand_fronts.proofs.marks.Marks.mark.Goals as goal
 
 pub push_if-requires-clause-room : goal.push_if-requires-clause-room

@@ -1,6 +1,6 @@
-use Rattle.std.proofs.Common.{◌-◌, ◌<◌, ap, arith, length}
-use Rattle.std.proofs.lemmas.Grind.{common_steps}
-use Rattle.sand_fronts.specs.Marking.{MarksView}
+-- A listed tile has a set, so it is one of the tiles that there are (`tile_below`). It leaves the list when its set
+-- becomes empty: so the list still has just the tiles with a set.
+use Rattle.sand_fronts.proofs.Common.{◌-◌, ◌<◌, ap, arith, length, common_steps, MarksView}
 use Rattle.sand_fronts.proofs.Marked.{tile_below}
 use Rattle.sand_fronts.proofs.marks.Marks.take_last.Goals.{After-item-k}
 use Rattle.sand_fronts.proofs.marks.Marks.take_last.Goals as goal

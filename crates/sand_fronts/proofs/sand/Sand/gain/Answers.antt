@@ -1,7 +1,6 @@
-use Rattle.std.proofs.Common.{arith}
-use Rattle.std.specs.Prelude.{slice_index}
-use Rattle.std.proofs.lemmas.List.{length-set}
-use Rattle.sand_tiles.specs.declared.tile.Tile.{Tile}
+-- Only one tile of the list changes (`gains_one`), and it joins those that wait if a place is due in it now and none
+-- was (`joins_one`).
+use Rattle.sand_fronts.proofs.Common.{arith, slice_index, length-set, Tile}
 use Rattle.sand_fronts.proofs.Gained.{tile_read, gains_one}
 use Rattle.sand_fronts.proofs.TileLists.{joins_one}
 use Rattle.sand_fronts.proofs.sand.Sand.gain.Goals as goal

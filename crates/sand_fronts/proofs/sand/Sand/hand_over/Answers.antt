@@ -1,7 +1,6 @@
-use Rattle.std.proofs.Common.{ℕ, ◌+◌, arith}
-use Rattle.sand_tiles.specs.Places.{bit}
-use Rattle.sand_fronts.specs.Tiling.{over_north, over_south, over_east}
-use Rattle.sand_fronts.specs.Waves.{only, over_rim}
+-- Each shift leaves just the grains that cross the rim on that side, at the places that they reach (`Rims`). The four
+-- gains add up to one (`gets_more`).
+use Rattle.sand_fronts.proofs.Common.{ℕ, ◌+◌, arith, bit, over_north, over_south, over_east, only, over_rim}
 use Rattle.sand_fronts.proofs.Rims.{to_north, to_south, to_the_west, to_the_east}
 use Rattle.sand_fronts.proofs.TileLists.{gets_more}
 use Rattle.sand_fronts.proofs.sand.Sand.hand_over.Goals as goal

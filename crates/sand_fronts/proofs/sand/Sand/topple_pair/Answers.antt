@@ -1,13 +1,6 @@
-use Rattle.std.proofs.Common.{List, cond, eqb, ap, sym, ◌≡◌, ◌+◌, ◌<◌, ◌∙◌, length, refl, arith}
-use Rattle.std.specs.Vec.{with_items}
-use Rattle.std.proofs.Math.ListN.{set}
-use Rattle.std.proofs.lemmas.List.{length-set, with_items_is}
-use Rattle.sand_model.proofs.IndexLists.{joins_from}
-use Rattle.sand_tiles.specs.declared.tile.Tile.{Tile}
-use Rattle.sand_fronts.specs.Waves.{tile_at, over_rim, AreVisited}
-use Rattle.sand_fronts.specs.TileLists.{waits}
-use Rattle.sand_fronts.specs.Tiling.{tiles}
-use Rattle.sand_fronts.specs.Boards.{free_of, Gets}
+-- The two visits are one change of the list (`visited`), and what both tiles hand over is one gain (`both`). Neither
+-- tile has a due place after its visit, so neither waits any more (`pair_waits`).
+use Rattle.sand_fronts.proofs.Common.{List, cond, eqb, ap, sym, ◌≡◌, ◌+◌, ◌<◌, ◌∙◌, length, refl, arith, with_items, set, length-set, with_items_is, joins_from, Tile, tile_at, over_rim, AreVisited, waits, tiles, free_of, Gets}
 use Rattle.sand_fronts.proofs.Gained.{gains_from, written}
 use Rattle.sand_fronts.proofs.TileLists.{gets_more, pair_waits}
 use Rattle.sand_fronts.proofs.sand.Sand.topple_pair.Goals.{After-hand_over-2}

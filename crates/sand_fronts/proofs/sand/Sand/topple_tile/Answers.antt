@@ -1,9 +1,6 @@
-use Rattle.std.proofs.Common.{◌≡◌, ◌∙◌, length, arith}
-use Rattle.std.proofs.Math.ListN.{set}
-use Rattle.std.proofs.lemmas.List.{length-set}
-use Rattle.sand_model.proofs.IndexLists.{joins_from}
-use Rattle.sand_tiles.specs.declared.tile.Tile.{Tile}
-use Rattle.sand_fronts.specs.Tiling.{tiles}
+-- The visit is one change of the list (`written`), and what leaves the tile is a gain of the four next to it. After
+-- its visit the tile has no due place, so it waits no more (`visited_waits`).
+use Rattle.sand_fronts.proofs.Common.{◌≡◌, ◌∙◌, length, arith, set, length-set, joins_from, Tile, tiles}
 use Rattle.sand_fronts.proofs.Gained.{tile_read, gains_from, written}
 use Rattle.sand_fronts.proofs.TileLists.{visited_waits}
 use Rattle.sand_fronts.proofs.sand.Sand.topple_tile.Goals.{After-hand_over}

@@ -1,7 +1,4 @@
-use Rattle.std.proofs.Common.{rules, length}
-use Rattle.sand_fronts.specs.Tiling.{tiles}
-use Rattle.sand_fronts.specs.TileLists.{AreKept}
-use Rattle.sand_fronts.specs.Boards.{tiles_of}
+use Rattle.sand_fronts.proofs.Common.{rules, length, tiles, AreKept, tiles_of}
 use Rattle.sand_fronts.proofs.sand.Sand.topple_wave.Goals as goal
 
 pub returns-in-Open-clause-listed : goal.returns-in-Open-clause-listed

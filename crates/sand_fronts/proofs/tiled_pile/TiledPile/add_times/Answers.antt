@@ -1,7 +1,4 @@
-use Rattle.std.proofs.Common.{rules, arith, ◌+◌, ◌∙◌, ap}
-use Rattle.std.specs.Prelude.{slice_index}
-use Rattle.sand_model.specs.Grid.{sites}
-use Rattle.sand_fronts.specs.TiledPiles.{TiledView, by_site}
+use Rattle.sand_fronts.proofs.Common.{rules, arith, ◌+◌, ◌∙◌, ap, slice_index, sites, TiledView, by_site}
 use Rattle.sand_fronts.proofs.tiled_pile.TiledPile.add_times.Goals as goal
 
 pub add_eights-requires-clause-fits : goal.add_eights-requires-clause-fits

@@ -1,5 +1,6 @@
-use Rattle.std.proofs.Common.{◌^◌, ◌∙◌, arith}
-use Rattle.sand_fronts.specs.Boards.{counts_of}
+-- A place that is no site has count 0, so the bound by site bounds all places (`few_now`). Reading the avalanche
+-- clears the marks: so the pile is again one between two drops (`pile_after`).
+use Rattle.sand_fronts.proofs.Common.{◌^◌, ◌∙◌, arith, counts_of}
 use Rattle.sand_fronts.proofs.NewPiles.{counts_sites}
 use Rattle.sand_fronts.proofs.OnPiles.{dropped, waves_seen, few_now, pile_after, sites_toppled}
 use Rattle.sand_fronts.proofs.tiled_pile.TiledPile.drop_with_waves.Goals as goal

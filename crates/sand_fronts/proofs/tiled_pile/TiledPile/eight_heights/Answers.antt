@@ -1,6 +1,6 @@
-use Rattle.std.proofs.Common.{ap, ◌∙◌, ◌+◌, arith}
-use Rattle.sand_tiles.specs.declared.tile.Tile.{Tile}
-use Rattle.sand_tiles.specs.Places.{height}
+-- The eight sites are in one row of a tile, so they are at places in a row (`eight_seen`), none past the 64th
+-- (`few_places`).
+use Rattle.sand_fronts.proofs.Common.{ap, ◌∙◌, ◌+◌, arith, Tile, height}
 use Rattle.sand_fronts.proofs.Gained.{tile_read}
 use Rattle.sand_fronts.proofs.Eights.{few_places}
 use Rattle.sand_fronts.proofs.OnPiles.{eight_seen}

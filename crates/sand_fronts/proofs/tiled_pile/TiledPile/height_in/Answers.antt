@@ -1,6 +1,4 @@
-use Rattle.std.proofs.Common.{◌∙◌, ap, arith}
-use Rattle.sand_tiles.specs.declared.tile.Tile.{Tile}
-use Rattle.sand_tiles.specs.Places.{height}
+use Rattle.sand_fronts.proofs.Common.{◌∙◌, ap, arith, Tile, height}
 use Rattle.sand_fronts.proofs.Gained.{tile_read}
 use Rattle.sand_fronts.proofs.OnPiles.{site_seen}
 use Rattle.sand_fronts.proofs.tiled_pile.TiledPile.height_in.Goals as goal

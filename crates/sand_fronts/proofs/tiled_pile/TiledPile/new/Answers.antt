@@ -1,10 +1,6 @@
-use Rattle.std.proofs.Common.{get_or, ◌∙◌, sym, arith, ap}
-use Rattle.sand_model.specs.Grid.{Grid, sites}
-use Rattle.sand_model.specs.IndexLists.{ListView}
-use Rattle.sand_fronts.specs.Tiling.{tiles, tile_of, place_of}
-use Rattle.sand_fronts.specs.Drops.{heights_on, counted_on}
-use Rattle.sand_fronts.specs.Waves.{tile_at}
-use Rattle.sand_fronts.specs.Boards.{counts_of}
+-- Each site has had just its height, at most 3, so no place is due or in a wave (`new_quiet`), and contracts see these
+-- heights (`new_heights`).
+use Rattle.sand_fronts.proofs.Common.{get_or, ◌∙◌, sym, arith, ap, Grid, sites, ListView, tiles, tile_of, place_of, heights_on, counted_on, tile_at, counts_of}
 use Rattle.sand_fronts.proofs.OnTiles.{place_below}
 use Rattle.sand_fronts.proofs.NewPiles.{new_quiet, new_heights, counts_no_site, by_site_at, by_site_none, by_site_view}
 use Rattle.sand_fronts.proofs.tiled_pile.TiledPile.new.Goals as goal

@@ -1,8 +1,5 @@
-use Rattle.std.proofs.Common.{rules, arith, ℕ, ◌≡◌, ◌+◌, ◌<◌, ◌∙◌, ap, get_or, length, sym}
-use Rattle.std.specs.Prelude.{slice_index}
-use Rattle.std.proofs.lemmas.List.{get_or-replicate}
-use Rattle.sand_model.specs.Grid.{sites}
-use Rattle.sand_fronts.specs.TiledPiles.{TiledView}
+-- The heights are added to zeros, so the sums are the heights; and as no height is over 3, the sums fit.
+use Rattle.sand_fronts.proofs.Common.{rules, arith, ℕ, ◌≡◌, ◌+◌, ◌<◌, ◌∙◌, ap, get_or, length, sym, slice_index, get_or-replicate, sites, TiledView}
 use Rattle.sand_fronts.proofs.NewPiles.{by_site_is}
 use Rattle.sand_fronts.proofs.OnPiles.{heights_seen}
 use Rattle.sand_fronts.proofs.tiled_pile.TiledPile.read_heights.Goals.{After-fill}

@@ -1,6 +1,5 @@
-use Rattle.std.proofs.Common.{◌≡◌, ◌+◌, ◌*◌, ◌∙◌, ap, arith}
-use Rattle.sand_model.specs.Grid.{column, row}
-use Rattle.sand_fronts.specs.TiledPiles.{TiledView}
+-- The column and the row found for a site lead back to it (`site_parts`).
+use Rattle.sand_fronts.proofs.Common.{◌≡◌, ◌+◌, ◌*◌, ◌∙◌, ap, arith, column, row, TiledView}
 use Rattle.sand_fronts.proofs.Boards.{site_parts}
 use Rattle.sand_fronts.proofs.tiled_pile.TiledPile.times.Goals.{After-place-column}
 use Rattle.sand_fronts.proofs.tiled_pile.TiledPile.times.Goals as goal

@@ -1,7 +1,5 @@
-use Rattle.std.proofs.Common.{◌≡◌, ◌+◌, ◌*◌, ◌∙◌, arith}
-use Rattle.std.specs.Prelude.{slice_index}
-use Rattle.sand_tiles.specs.Counts.{counted}
-use Rattle.sand_fronts.specs.Boards.{counts_of}
+-- The place that is read is that of the site, so contracts see this count there (`site_seen`).
+use Rattle.sand_fronts.proofs.Common.{◌≡◌, ◌+◌, ◌*◌, ◌∙◌, arith, slice_index, counted, counts_of}
 use Rattle.sand_fronts.proofs.OnPiles.{site_seen}
 use Rattle.sand_fronts.proofs.tiled_pile.TiledPile.times_in.Goals.{After-find_at-tile}
 use Rattle.sand_fronts.proofs.tiled_pile.TiledPile.times_in.Goals as goal

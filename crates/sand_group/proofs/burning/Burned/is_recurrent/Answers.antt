@@ -1,5 +1,4 @@
-use Rattle.std.proofs.Common.{rules}
-use Rattle.sand_group.specs.Recurrence.{is_in}
+use Rattle.sand_group.proofs.Common.{rules, is_in}
 use Rattle.sand_group.proofs.burning.Burned.is_recurrent.Goals as goal
 
 pub returns-in-Forbidden : goal.returns-in-Forbidden

@@ -1,5 +1,4 @@
-use Rattle.std.proofs.Common.{rules}
-use Rattle.sand_group.specs.Recurrence.{is_in}
+use Rattle.sand_group.proofs.Common.{rules, is_in}
 use Rattle.sand_group.proofs.group.Recurrent.from_pile.Goals as goal
 
 pub returns-in-Forbidden-clause-not_recurrent : goal.returns-in-Forbidden-clause-not_recurrent

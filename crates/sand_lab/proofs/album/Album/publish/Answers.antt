@@ -1,6 +1,4 @@
-use Rattle.std.proofs.Common.{◌≡◌, ℕ, List, length, slice_get, option_map, sym, ap, ◌∙◌}
-use Rattle.std.proofs.lemmas.List.{length-map}
-use Rattle.std.proofs.lemmas.Option.{slice_get-map, slice_get_read}
+use Rattle.sand_lab.proofs.Common.{◌≡◌, ℕ, List, length, slice_get, option_map, sym, ap, ◌∙◌, length-map, slice_get-map, slice_get_read}
 use Rattle.once_cell.specs.Once.{cell_name}
 use Rattle.sand_lab.proofs.album.Album.publish.Goals as goal
 

@@ -1,6 +1,4 @@
-use Rattle.std.proofs.Common.{ℕ}
-use Rattle.sand_plan.specs.declared.wish.Wish.{Wish}
-use Rattle.sand_lab.specs.Crews.{HasWorked}
+use Rattle.sand_lab.proofs.Common.{ℕ, Wish, HasWorked}
 use Rattle.sand_lab.proofs.crew.Crew.sweep_on.Given as goal
 
 abbrev pub invariant-loop : goal.invariant-loop

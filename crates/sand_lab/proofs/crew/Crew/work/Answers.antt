@@ -1,5 +1,4 @@
-use Rattle.sand_lab.specs.Crews.{IsDropper, IsWorker, IsObserver}
-use Rattle.sand_lab.specs.Jobs.{CanDrop, CanSweep, CanTally}
+use Rattle.sand_lab.proofs.Common.{IsDropper, IsWorker, IsObserver, CanDrop, CanSweep, CanTally}
 use Rattle.sand_lab.proofs.EachAtItsPlace.{each_all}
 use Rattle.sand_lab.proofs.CrewHasWorked.{can_drop, can_sweep, can_tally, worked}
 use Rattle.sand_lab.proofs.crew.Crew.work.Goals as goal

@@ -1,12 +1,4 @@
-use Rattle.std.proofs.Common.{arith, ◌≡◌, ◌+◌, ◌-◌, ◌<◌, ◌≤◌, List, ℕ, [], ◌++◌, All, length, ap, sym, subst, ◌∙◌, append-nil}
-use Rattle.std.proofs.lemmas.List.Elements.{All-nil}
-use Rattle.std.specs.Int.{div_ceil}
-use Rattle.sand_model.specs.Grid.{sites}
-use Rattle.sand_shared.specs.declared.view.Receipt.{Receipt}
-use Rattle.sand_shared.specs.Events.{receipts_from}
-use Rattle.sand_shared.specs.OpenPile.{grid_of_terms}
-use Rattle.sand_shared.specs.Passes.{PassView, AllBelow}
-use Rattle.sand_lab.specs.Journals.{Ascends, receipt_sites}
+use Rattle.sand_lab.proofs.Common.{arith, ◌≡◌, ◌+◌, ◌-◌, ◌<◌, ◌≤◌, List, ℕ, [], ◌++◌, All, length, ap, sym, subst, ◌∙◌, append-nil, All-nil, div_ceil, sites, Receipt, receipts_from, grid_of_terms, PassView, AllBelow, Ascends, receipt_sites}
 use Rattle.sand_lab.proofs.OneTurnMore.{ascends_row, below_row, within_row, sites_row}
 use Rattle.sand_lab.proofs.droppers.Dropper.drop_batch.Goals as goal
 

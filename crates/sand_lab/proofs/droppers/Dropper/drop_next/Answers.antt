@@ -1,10 +1,4 @@
-use Rattle.std.proofs.Common.{arith, ◌≡◌, ◌+◌, ◌-◌, ◌<◌, ℕ, List, [], ◌∷◌, ◌++◌, ap, sym, subst, ◌∙◌, append-nil, add-one}
-use Rattle.std.proofs.lemmas.List.Elements.{All-push}
-use Rattle.sand_shared.specs.declared.view.Receipt.{Receipt}
-use Rattle.sand_shared.specs.Events.{receipt}
-use Rattle.sand_shared.specs.Passes.{PassView, AllBelow}
-use Rattle.sand_lab.specs.Journals.{Ascends, receipt_sites}
-use Rattle.sand_lab.specs.Streams.{Reading, site_at}
+use Rattle.sand_lab.proofs.Common.{arith, ◌≡◌, ◌+◌, ◌-◌, ◌<◌, ℕ, List, [], ◌∷◌, ◌++◌, ap, sym, subst, ◌∙◌, append-nil, add-one, All-push, Receipt, receipt, PassView, AllBelow, Ascends, receipt_sites, Reading, site_at}
 use Rattle.sand_lab.proofs.OneTurnMore.{ascends_push, below_push, sites_push}
 use Rattle.sand_lab.proofs.droppers.Dropper.drop_next.Goals as goal
 

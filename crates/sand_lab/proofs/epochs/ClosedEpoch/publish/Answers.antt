@@ -1,5 +1,4 @@
-use Rattle.std.proofs.Common.{ap, ◌∙◌, Some}
-use Rattle.sand_shared.specs.Record.{RecordView}
+use Rattle.sand_lab.proofs.Common.{ap, ◌∙◌, Some, RecordView}
 use Rattle.sand_lab.specs.Albums.{PictureView}
 use Rattle.sand_lab.proofs.epochs.ClosedEpoch.publish.Goals as goal
 

@@ -1,6 +1,4 @@
-use Rattle.std.proofs.Common.{List, [], ◌∷◌, ◌++◌, ap, ◌∙◌, subst}
-use Rattle.sand_shared.specs.Record.{RecordView}
-use Rattle.sand_lab.specs.Reports.{IsBoth, ReportView, SheetView}
+use Rattle.sand_lab.proofs.Common.{List, [], ◌∷◌, ◌++◌, ap, ◌∙◌, subst, RecordView, IsBoth, ReportView, SheetView}
 use Rattle.sand_lab.proofs.report.Report.add.Goals as goal
 
 pub returns-clause-grown : goal.returns-clause-grown

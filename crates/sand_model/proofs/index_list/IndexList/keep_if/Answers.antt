@@ -1,7 +1,7 @@
-use Rattle.std.proofs.Common.{ℕ, List, ◌≡◌, ◌<◌, length, take, ◌∙◌, ap, arith}
+-- The position is inside the list, so the slot that is written is one that contracts see (`take-set-lt`).
+use Rattle.sand_model.proofs.Common.{ℕ, List, ◌≡◌, ◌<◌, length, take, ◌∙◌, ap, arith, length-set, length-take}
 use Rattle.std.proofs.Math.ListN.{set}
 use Rattle.std.proofs.Math.Seq.{take-set-lt}
-use Rattle.std.proofs.lemmas.List.{length-set, length-take}
 use Rattle.sand_model.specs.IndexLists.{ListView}
 use Rattle.sand_model.proofs.index_list.IndexList.keep_if.Goals as goal
 

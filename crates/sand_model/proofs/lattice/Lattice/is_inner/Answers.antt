@@ -1,6 +1,6 @@
-use Rattle.std.proofs.Common.{◌≡◌, ◌∙◌, ap, arith}
-use Rattle.std.proofs.lemmas.List.{get_or_default}
-use Rattle.sand_model.specs.Grid.{Grid, sites, column}
+-- No row is computed: a site is past the first row if and only if it is at least the width, and before the last one if
+-- and only if the site one width on is in the grid (`inner_told`). Its column is in the table.
+use Rattle.sand_model.proofs.Common.{◌≡◌, ◌∙◌, ap, arith, get_or_default, Grid, sites, column}
 use Rattle.sand_model.specs.Columns.{AreSiteColumns}
 use Rattle.sand_model.proofs.Borders.{inner_told}
 use Rattle.sand_model.proofs.lattice.Lattice.is_inner.Goals as goal

@@ -1,3 +1,4 @@
+-- Each of the four places is a neighbour or outside the grid (`missing_is`).
 use Rattle.std.proofs.Common.{◌∙◌, sym, ap, count_by, is_none}
 use Rattle.sand_model.proofs.Neighbours.{missing_is}
 use Rattle.sand_model.proofs.lattice.Lattice.missing.Goals as goal

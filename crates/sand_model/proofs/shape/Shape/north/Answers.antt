@@ -1,5 +1,4 @@
-use Rattle.std.proofs.Common.{ap, arith}
-use Rattle.sand_model.specs.Grid.{Grid}
+use Rattle.sand_model.proofs.Common.{ap, arith, Grid}
 use Rattle.sand_model.proofs.Borders.{nothing_north}
 use Rattle.sand_model.proofs.shape.Shape.north.Goals as goal
 

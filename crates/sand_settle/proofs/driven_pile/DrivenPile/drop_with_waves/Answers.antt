@@ -1,9 +1,6 @@
-use Rattle.std.proofs.Common.{◌<◌, ◌+◌, ap, arith, subst}
-use Rattle.sand_model.specs.Grid.{sites}
-use Rattle.sand_model.specs.Piles.{most_grains}
-use Rattle.sand_settle.specs.Avalanches.{IsAvalanche}
-use Rattle.sand_settle.specs.Drops.{OneView, grid_of_one_pile, one_view, topplings_between}
-use Rattle.sand_settle.specs.Driven.{driven_record}
+-- What the drop does to the tiles it does to the record: heights, odometer and sums (`drops_on`). All topplings are
+-- paid for by the grains (`IsPaid`), and these are within the limit, so no sum overflows.
+use Rattle.sand_settle.proofs.Common.{◌<◌, ◌+◌, ap, arith, subst, sites, most_grains, IsAvalanche, DrivenView, grid_of_driven, driven_view, topplings_between, driven_record}
 use Rattle.sand_settle.specs.Waves.{HasDroppedInWaves}
 use Rattle.sand_settle.proofs.Drops.{drops_from, after_drop}
 use Rattle.sand_settle.proofs.Driven.{DropsOn, drops_on, few_counts, waves_on}
@@ -11,7 +8,7 @@ use Rattle.sand_settle.proofs.driven_pile.DrivenPile.drop_with_waves.Goals.{Afte
 use Rattle.sand_settle.proofs.driven_pile.DrivenPile.drop_with_waves.Goals as goal
 
 inside : (c : After-drop_with_waves-waves) → c.args.site < sites c.self.inside.start.pile.grid
-inside c = let same = ap (λ (v : OneView). sites (grid_of_one_pile v)) c.self.view_is in omega (arith, c.requires)
+inside c = let same = ap (λ (v : DrivenView). sites (grid_of_driven v)) c.self.view_is in omega (arith, c.requires)
 
 room : (c : After-drop_with_waves-waves) → c.self.inside.grains < most_grains
 room c = omega (arith, c.if-self-eq-GRAIN_LIMIT.false, c.self.invariant.all_grains, c.self.invariant.paid.limit)
@@ -56,8 +53,8 @@ returns-clause-dropped c =
     let drops = drops_from c.self.inside.number c.self.invariant.paid c.self.view_is (inside at)
     (omega (arith, room at, c.self.invariant.all_grains)) (dropped at).taken in
     record {
-      number = ap (λ (v : OneView). v.number) c.self.view_is;
-      avalanche = subst (λ (v : OneView). IsAvalanche (grid_of_one_pile v) c.args.site (topplings_between v.settled
+      number = ap (λ (v : DrivenView). v.number) c.self.view_is;
+      avalanche = subst (λ (v : DrivenView). IsAvalanche (grid_of_driven v) c.args.site (topplings_between v.settled
           (driven_record c.self.inside.start c.drop_with_waves-waves.new.self
           (c.self.inside.topplings + c.drop_with_waves-waves.result.0.size)
           (c.self.inside.lost + c.drop_with_waves-waves.result.0.lost)))
@@ -70,9 +67,9 @@ pub returns-clause-waves : goal.returns-clause-waves
 returns-clause-waves c =
     let at = (goal.at.returns-clause-waves c).After-drop_with_waves-waves in
     let waves = waves_on c.self.invariant (inside at) (dropped at) c.drop_with_waves-waves.ensures.waves in
-    subst (λ (v : OneView). HasDroppedInWaves v c.args.site c.drop_with_waves-waves.result.1
+    subst (λ (v : DrivenView). HasDroppedInWaves v c.args.site c.drop_with_waves-waves.result.1
     c.drop_with_waves-waves.result.0 c.args.sizes.now c.drop_with_waves-waves.new.sizes
-    (one_view (driven_record c.self.inside.start c.drop_with_waves-waves.new.self
+    (driven_view (driven_record c.self.inside.start c.drop_with_waves-waves.new.self
     (c.self.inside.topplings + c.drop_with_waves-waves.result.0.size)
     (c.self.inside.lost + c.drop_with_waves-waves.result.0.lost)) (c.self.inside.number + 1))) c.self.view_is (record {
       waves = waves.waves;

@@ -1,10 +1,7 @@
-use Rattle.std.proofs.Common.{◌≡◌, ◌∙◌, ◌+◌, List, ℕ, ap, arith, drop, length, slice_index, subst, sym, refl}
-use Rattle.std.proofs.lemmas.List.{take_at}
-use Rattle.sand_model.specs.Grid.{Grid}
-use Rattle.sand_model.specs.Piles.{PileView}
+-- The heights of the start are overwritten with those on the tiles, and its odometer gains the counts there. That is
+-- the driven record (`same_parts`), and the invariant says that it is a settled one.
+use Rattle.sand_settle.proofs.Common.{◌≡◌, ◌∙◌, ◌+◌, List, ℕ, ap, arith, drop, length, slice_index, subst, sym, refl, take_at, Grid, PileView, SettledView, IsSomeSettledRecord, driven_record}
 use Rattle.sand_fronts.specs.TiledPiles.{by_site}
-use Rattle.sand_settle.specs.Settling.{SettledView, IsSomeSettledRecord}
-use Rattle.sand_settle.specs.Driven.{driven_record}
 use Rattle.sand_settle.proofs.OneRecord.{same_parts}
 use Rattle.sand_settle.proofs.Driven.{few_counts}
 use Rattle.sand_settle.proofs.driven_pile.DrivenPile.finish.Goals as goal

@@ -1,28 +1,30 @@
-use Rattle.std.proofs.Common.{◌<◌, refl, ap, arith}
-use Rattle.std.proofs.lemmas.Grind.{common_steps}
-use Rattle.sand_model.specs.Grid.{sites}
-use Rattle.sand_model.specs.Piles.{most_grains}
-use Rattle.sand_settle.specs.Drops.{OneView, grid_of_one_pile}
-use Rattle.sand_settle.proofs.Drops.{kept_after, drops_from, after_drop}
+use Rattle.sand_settle.proofs.Common.{◌≡◌, refl, subst, ap, DrivenView, driven_view, IsPaid, Drops}
+use Rattle.sand_settle.proofs.Drops.{kept_or_new, paid_after, after_drop}
+use Rattle.sand_settle.proofs.one_pile.OnePile.drop_at.Goals.{After-replace_with-driven}
 use Rattle.sand_settle.proofs.one_pile.OnePile.drop_at.Goals as goal
+
+dropped : (c : After-replace_with-driven) → Drops (driven_view c.self.inside.settled c.self.inside.number) c.args.site
+    c.replace_with-driven.result.0
+dropped c = subst (λ (v : DrivenView). Drops v c.args.site c.replace_with-driven.result.0)
+    (kept_or_new (λ v. c.in_ok-driven.driven ≡ v) c.self.inside.driven c.self.invariant c.in_ok-driven.ensures.driven)
+    c.replace_with-driven.ensures.1.0
 
 pub invariant_of-self-2 : goal.invariant_of-self-2
 invariant_of-self-2 c =
-    let inside = ap (λ (v : OneView). sites (grid_of_one_pile v)) c.self.view_is in
-    let grains = ap (λ (v : OneView). v.grains) c.self.view_is in
-    let room : c.args.self.now.grains < most_grains =
-    grind (arith, common_steps, c.is_full.ensures.full, c.is_full.ensures.limit) in
-    let dropped = c.replace_with-tiled.ensures in
-    (kept_after c.self.invariant.0 (omega (arith, c.requires)) (omega arith) dropped.1.0, dropped.0, λ l. refl)
+    let drop = dropped (goal.at.invariant_of-self-2 c).After-replace_with-driven in
+    let same = c.replace_with-driven.ensures.0 in
+    record {
+      paid = subst IsPaid (ap (λ (v : DrivenView). v.settled) same)
+          (paid_after c.self.invariant.paid drop.inside drop.room drop.settled);
+      same = rw c.tally-self-inside.ensures same;
+      made = λ l. refl;
+    }
 
 pub returns-clause-drops : goal.returns-clause-drops
 returns-clause-drops c =
-    let inside = ap (λ (v : OneView). sites (grid_of_one_pile v)) c.self.view_is in
-    let grains = ap (λ (v : OneView). v.grains) c.self.view_is in
-    let room : c.args.self.now.grains < most_grains =
-    grind (arith, common_steps, c.is_full.ensures.full, c.is_full.ensures.limit) in
-    drops_from c.self.inside.number c.self.invariant.0.paid c.self.view_is (omega (arith, c.requires)) (omega arith)
-    c.replace_with-tiled.ensures.1.0
+    let drop = dropped (goal.at.returns-clause-drops c).After-replace_with-driven in
+    rw (← c.self.view_is, c.tally-self-inside.ensures)
+    (subst (Drops _ c.args.site) c.replace_with-driven.ensures.0 drop)
 
 pub returns-clause-after : goal.returns-clause-after
 returns-clause-after c start history after =

@@ -1,7 +1,5 @@
-use Rattle.std.proofs.Common.{◌∙◌, ap, replicate}
-use Rattle.sand_model.specs.Grid.{sites}
-use Rattle.sand_model.specs.Piles.{height_of}
-use Rattle.sand_settle.specs.Settling.{IsSettledRecord}
+-- No site of a stable pile topples, so its odometer is 0 everywhere (`stable_record`).
+use Rattle.sand_settle.proofs.Common.{◌∙◌, ap, replicate, sites, height_of, IsSettledRecord}
 use Rattle.sand_settle.proofs.OneRecord.{some_record}
 use Rattle.sand_settle.proofs.Records.{stable_record}
 use Rattle.sand_settle.proofs.settled.Settled.of_stable.Goals.{In_ok-odometer}

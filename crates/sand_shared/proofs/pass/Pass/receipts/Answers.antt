@@ -1,5 +1,4 @@
-use Rattle.std.proofs.Common.{ap, ◌∙◌, subst}
-use Rattle.sand_shared.specs.Passes.{PassView, EachOnce}
+use Rattle.sand_shared.proofs.Common.{ap, ◌∙◌, subst, PassView, EachOnce}
 use Rattle.sand_shared.proofs.pass.Pass.receipts.Goals as goal
 
 pub returns-clause-each_once : goal.returns-clause-each_once

@@ -1,9 +1,5 @@
-use Rattle.std.proofs.Common.{◌≡◌, ◌-◌, ◌*◌, get_or, sym, ap, ◌∙◌, subst, arith}
-use Rattle.std.proofs.lemmas.List.{get_or_read}
-use Rattle.sand_shared.specs.Passes.{PassView, at_rest}
-use Rattle.sand_shared.specs.Bare.{shown}
-use Rattle.sand_shared.specs.OpenPile.{toppled_by}
-use Rattle.sand_shared.specs.Rows.{HoldsSite}
+-- The site is in the pass's rows: not before the first of them, and so near that it has a count (`site_inside`).
+use Rattle.sand_shared.proofs.Common.{◌≡◌, ◌-◌, ◌*◌, get_or, sym, ap, ◌∙◌, subst, arith, get_or_read, PassView, at_rest, shown, toppled_by, HoldsSite}
 use Rattle.sand_shared.proofs.GrainsAtSite.{toppled_from}
 use Rattle.sand_shared.proofs.RowSites.{IsInside, site_inside}
 use Rattle.sand_shared.proofs.pass.Pass.toppled.Goals.{After-width}

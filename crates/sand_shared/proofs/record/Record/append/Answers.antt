@@ -1,7 +1,6 @@
-use Rattle.std.proofs.Common.{◌≡◌, ℕ, ◌+◌, ◌<◌, ◌++◌, List, length, sum, sym, ap, ◌∙◌, subst, arith, rules}
-use Rattle.std.specs.Prelude.{slice_index}
-use Rattle.sand_settle.specs.Settling.{SettledView, IsSomeSettledRecord}
-use Rattle.sand_shared.specs.Record.{RecordView, IsOneThreads}
+-- The second record starts from the settled pile of the first, and settling in two parts is settling at once: so the
+-- odometers and the sums of both add up (`followed`). All entries are below 2^54, so they fit (`small_entries`).
+use Rattle.sand_shared.proofs.Common.{◌≡◌, ℕ, ◌+◌, ◌<◌, ◌++◌, List, length, sum, sym, ap, ◌∙◌, subst, arith, rules, slice_index, SettledView, IsSomeSettledRecord, RecordView, IsOneThreads}
 use Rattle.sand_shared.proofs.RecordSums.{AreJoined, small_entries, small_topplings, small_lost, joined_topplings, both, followed, settled_record}
 use Rattle.sand_shared.proofs.record.Record.append.Goals.{After-lost-2}
 use Rattle.sand_shared.proofs.record.Record.append.Goals as goal
@@ -35,6 +34,7 @@ joined c =
           (λ i. (mine i, theirs i)) c.add.ensures.sums;
     }
 
+-- the settled record of both histories has these parts
 parts : (c : After-lost-2)
     → (both c.args.self.now c.args.next.now c.add.new.numbers.items).settled
     ≡ record {

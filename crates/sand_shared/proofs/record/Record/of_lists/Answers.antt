@@ -1,7 +1,6 @@
-use Rattle.std.proofs.Common.{ℕ, ◌+◌, ◌-◌, List, sum, refl, sym, ap, ◌∙◌, subst, arith}
-use Rattle.sand_model.specs.Piles.{PileView}
-use Rattle.sand_settle.specs.Settling.{SettledView}
-use Rattle.sand_shared.specs.Record.{IsOneThreads}
+-- The odometer settles the start and the history (`LeadsTo`), so no grains are made and what is not on the pile is
+-- lost (`grains_left`). The topplings are bounded by the weight of the grains (`few_topplings`).
+use Rattle.sand_shared.proofs.Common.{ℕ, ◌+◌, ◌-◌, List, sum, refl, sym, ap, ◌∙◌, subst, arith, PileView, SettledView, IsOneThreads}
 use Rattle.sand_shared.proofs.RecordSums.{LeadsTo, few_topplings, grains_left, one_threads, settled_record}
 use Rattle.sand_shared.proofs.record.Record.of_lists.Goals.{After-grains-2, After-shape}
 use Rattle.sand_shared.proofs.record.Record.of_lists.Goals as goal
@@ -25,6 +24,7 @@ overflow_sub-lost c =
     let left = grains_left (leads (goal.at.overflow_sub-lost c).After-shape) in
     omega (arith, c.grains-2.ensures.value ∙ ap (λ (p : PileView). sum p.heights) c.from_vec-pile.ensures)
 
+-- the record as it is made: what the start and the history have more than the settled pile is lost
 made : (c : After-grains-2)
     → LeadsTo c.args.start c.args.history.items c.args.heights.items c.args.odometer.items
     → IsOneThreads (record {

@@ -1,9 +1,6 @@
-use Rattle.std.proofs.Common.{ℕ, List, length, sym, refl, ap, ◌∙◌, subst, arith, rules}
-use Rattle.std.specs.Prelude.{slice_index}
-use Rattle.sand_model.specs.Piles.{PileView}
-use Rattle.sand_shared.specs.declared.view.Terms.{Terms}
-use Rattle.sand_shared.specs.Passes.{SharedView, PassView}
-use Rattle.sand_shared.specs.Record.{Tells, IsCompleted}
+-- The load tells that the pass is on a lawful pile (`stands_bare`). So the history is that of its receipts
+-- (`gathered_record`), and its counts with the odometer of the rest are the least odometer (`completed_leads`).
+use Rattle.sand_shared.proofs.Common.{ℕ, List, length, sym, refl, ap, ◌∙◌, subst, arith, rules, slice_index, PileView, Terms, SharedView, PassView, Tells, IsCompleted}
 use Rattle.sand_shared.proofs.LastPileIsSettled.{gathered, gathered_record, stands_bare, completed_leads}
 use Rattle.sand_shared.proofs.shared_pile.SharedPile.complete.Goals as goal
 

@@ -1,13 +1,6 @@
-use Rattle.std.proofs.Common.{ℕ, sym, subst}
-use Rattle.std.specs.Prelude.{slice_index}
-use Rattle.atomic_table.specs.Table.{Me}
-use Rattle.sand_model.specs.Sand.{IsUnderway}
-use Rattle.sand_model.specs.Piles.{PileView, height_of}
-use Rattle.sand_shared.specs.declared.view.View.{View}
-use Rattle.sand_shared.specs.declared.view.Terms.{Terms}
-use Rattle.sand_shared.specs.OpenPile.{grid_of_terms, toppled_by}
-use Rattle.sand_shared.specs.Passes.{PassView, at_rest}
-use Rattle.sand_shared.specs.Sweeps.{start_and_receipts}
+-- What the seat has toppled is under way to what was read (`read`), and for a whole pass that is its counts by site
+-- (`left_underway`).
+use Rattle.sand_shared.proofs.Common.{ℕ, sym, subst, slice_index, Me, IsUnderway, PileView, height_of, View, Terms, grid_of_terms, toppled_by, PassView, at_rest, start_and_receipts}
 use Rattle.sand_shared.proofs.LastPileIsSettled.{left_underway, gathered}
 use Rattle.sand_shared.proofs.shared_pile.SharedPile.current_pile.Goals as goal
 

@@ -1,15 +1,13 @@
-use Rattle.std.proofs.Common.{◌≡◌, List, ◌++◌, length, sym, refl, ap, ◌∙◌, arith, rules, length-append}
-use Rattle.sand_shared.specs.declared.view.Receipt.{Receipt}
-use Rattle.sand_shared.specs.declared.view.View.{View}
-use Rattle.sand_shared.specs.OpenPile.{receipts_for}
-use Rattle.sand_shared.specs.Events.{receipts_from}
-use Rattle.sand_shared.specs.Passes.{PassView}
+-- Drawn and laid, the drops leave the seat with what the pass has after them (`bare_dropped`). The first number is at
+-- least what the pass had seen (`fresh`), and the last is below the quota (`row_small`), so no number overflows.
+use Rattle.sand_shared.proofs.Common.{◌≡◌, List, ◌++◌, length, sym, refl, ap, ◌∙◌, arith, rules, length-append, Receipt, View, receipts_for, receipts_from, PassView}
 use Rattle.sand_shared.proofs.EventsInARow.{row_small}
 use Rattle.sand_shared.proofs.Receipts.{receipts_for-append, receipts_from-length, receipts_by_site}
 use Rattle.sand_shared.proofs.SeatOfPass.{drawn, fresh, has_dropped, bare_dropped}
 use Rattle.sand_shared.proofs.shared_pile.SharedPile.drop_all.Goals as goal
 use Rattle.sand_shared.proofs.shared_pile.SharedPile.drop_all.Goals.{After-place_all}
 
+-- the receipts that the seat then has
 received : (c : After-place_all) → c.place_all.new.seat.me.0.receipts
     ≡ c.bare.inside.seat.me.0.receipts ++ receipts_from c.draw-number.result c.args.drops.now
 received c = ap (λ (v : View). v.receipts) (has_dropped c.bare.invariant c.args.drops.now (omega arith)

@@ -1,8 +1,6 @@
-use Rattle.std.proofs.Common.{◌≤◌, List, [], ◌∷◌, sym, refl, ap, ◌∙◌, subst, arith}
-use Rattle.std.specs.Prelude.{count_by}
-use Rattle.sand_shared.specs.declared.view.View.{View}
-use Rattle.sand_shared.specs.declared.view.Grains.{Grains}
-use Rattle.sand_shared.specs.Events.{grains_for, are_for}
+-- A drop is a list of one: the grain drawn is the only one in hand, and once it is laid the hand is empty
+-- (`last_laid`).
+use Rattle.sand_shared.proofs.Common.{◌≤◌, List, [], ◌∷◌, sym, refl, ap, ◌∙◌, subst, arith, count_by, View, Grains, grains_for, are_for}
 use Rattle.sand_shared.proofs.HandAfterPlacing.{laid_on, last_laid, first_counts}
 use Rattle.sand_shared.proofs.EventsInARow.{laid_is}
 use Rattle.sand_shared.proofs.SeatOfPass.{drawn, bare_dropped}

@@ -1,10 +1,8 @@
-use Rattle.std.proofs.Common.{◌≡◌, List, [], ◌∷◌, ◌++◌, reverse, Some, sym, ap, ◌∙◌, subst, arith}
-use Rattle.std.proofs.lemmas.List.{nil_from_length}
-use Rattle.std.proofs.lemmas.List.Elements.{All-pop}
+-- The reversed list is popped from its end, so the passes come in order (`IsJoining`). A pass that is refused is
+-- pushed back, and the list reversed again: so the passes not joined come back in order (`stops_at`).
+use Rattle.sand_shared.proofs.Common.{◌≡◌, List, [], ◌∷◌, ◌++◌, reverse, Some, sym, ap, ◌∙◌, subst, arith, nil_from_length, All-pop, receipts_for, PassView, IsPassOf, together_all}
 use Rattle.std.proofs.lemmas.List.Sorted.{All-permutation}
-use Rattle.sand_shared.specs.OpenPile.{receipts_for}
 use Rattle.sand_shared.specs.Joins.{StopsAt}
-use Rattle.sand_shared.specs.Passes.{PassView, IsPassOf, together_all}
 use Rattle.sand_shared.proofs.JoinedInOrder.{IsJoining, none_joined, one_more_joined, stops_at, all_joined}
 use Rattle.sand_shared.proofs.Receipts.{receipts_for-together_all}
 use Rattle.sand_shared.proofs.shared_pile.SharedPile.join_all.Goals as goal

@@ -1,5 +1,4 @@
-use Rattle.std.proofs.Common.{All, length}
-use Rattle.sand_shared.specs.Passes.{IsPassOf}
+use Rattle.sand_shared.proofs.Common.{All, length, IsPassOf}
 use Rattle.sand_shared.proofs.JoinedInOrder.{IsJoining}
 use Rattle.sand_shared.proofs.shared_pile.SharedPile.join_all.Given as goal
 

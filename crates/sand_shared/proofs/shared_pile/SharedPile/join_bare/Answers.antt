@@ -1,7 +1,6 @@
-use Rattle.std.proofs.Common.{◌≡◌, ◌++◌, Bool, sym, ap, ◌∙◌, arith, rules, length-append}
-use Rattle.std.specs.Prelude.{if◌then◌else◌}
-use Rattle.sand_shared.specs.Bare.{shown}
-use Rattle.sand_shared.specs.Passes.{PassView, together}
+-- The joined seat has what both passes together have, rows in order (`joined_view`). Only the load after the join
+-- tells that no two receipts of them have the same number: it shows the seat on a lawful pile (`joined_pass`).
+use Rattle.sand_shared.proofs.Common.{◌≡◌, ◌++◌, Bool, sym, ap, ◌∙◌, arith, rules, length-append, if◌then◌else◌, shown, PassView, together}
 use Rattle.sand_shared.proofs.PassesJoined.{joined_view, joined_pass, seats_touch}
 use Rattle.sand_shared.proofs.SeatOfPass.{seated}
 use Rattle.sand_shared.proofs.shared_pile.SharedPile.join_bare.Goals as goal

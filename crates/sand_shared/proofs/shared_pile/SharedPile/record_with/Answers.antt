@@ -1,7 +1,5 @@
-use Rattle.std.proofs.Common.{ℕ, List, length, sym, refl, ap, ◌∙◌, subst, arith, rules}
-use Rattle.std.specs.Prelude.{slice_index}
-use Rattle.sand_model.specs.Piles.{PileView}
-use Rattle.sand_shared.specs.Record.{Tells, IsCompleted}
+-- The same as in `complete`, from copies of the start and of the counts.
+use Rattle.sand_shared.proofs.Common.{ℕ, List, length, sym, refl, ap, ◌∙◌, subst, arith, rules, slice_index, PileView, Tells, IsCompleted}
 use Rattle.sand_shared.proofs.LastPileIsSettled.{gathered, gathered_record, stands_bare, completed_leads}
 use Rattle.sand_shared.proofs.shared_pile.SharedPile.record_with.Goals as goal
 

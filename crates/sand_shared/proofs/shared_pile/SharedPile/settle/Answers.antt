@@ -1,6 +1,4 @@
-use Rattle.std.proofs.Common.{◌∙◌, subst}
-use Rattle.sand_shared.specs.Passes.{PassView}
-use Rattle.sand_shared.specs.Record.{IsRecordOf}
+use Rattle.sand_shared.proofs.Common.{◌∙◌, subst, PassView, IsRecordOf}
 use Rattle.sand_shared.proofs.shared_pile.SharedPile.settle.Goals as goal
 
 pub returns-clause-closed : goal.returns-clause-closed

@@ -1,6 +1,5 @@
-use Rattle.std.proofs.Common.{◌≡◌, ◌-◌, length, refl, ap, ◌∙◌, arith}
-use Rattle.sand_shared.specs.Bare.{shown}
-use Rattle.sand_shared.specs.Events.{parent}
+-- No site is given away, so the seat has what the pass with less quota has (`rows_kept`).
+use Rattle.sand_shared.proofs.Common.{◌≡◌, ◌-◌, length, refl, ap, ◌∙◌, arith, shown, parent}
 use Rattle.sand_shared.proofs.PassesSplit.{rows_kept}
 use Rattle.sand_shared.proofs.SeatOfPass.{with_receipts, seated}
 use Rattle.sand_shared.proofs.shared_pile.SharedPile.split.Goals as goal

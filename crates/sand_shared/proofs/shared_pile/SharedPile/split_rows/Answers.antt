@@ -1,8 +1,6 @@
-use Rattle.std.proofs.Common.{◌≡◌, ◌-◌, ◌*◌, ◌≤◌, take, drop, length, sym, refl, ap, ◌∙◌, arith, rules}
-use Rattle.sand_shared.specs.Bare.{shown}
-use Rattle.sand_shared.specs.Events.{parent, child}
-use Rattle.sand_shared.specs.Passes.{sites_kept}
-use Rattle.sand_shared.specs.Rows.{count_of}
+-- The seats have what passes with the upper and with the lower rows have (`upper_has`, `lower_has`), because a row is
+-- as many sites as the grid is wide (`kept_is`).
+use Rattle.sand_shared.proofs.Common.{◌≡◌, ◌-◌, ◌*◌, ◌≤◌, take, drop, length, sym, refl, ap, ◌∙◌, arith, rules, shown, parent, child, sites_kept, count_of}
 use Rattle.sand_shared.proofs.PassesSplit.{upper, lower, upper_pass, lower_pass, upper_has, lower_has}
 use Rattle.sand_shared.proofs.SeatOfPass.{seated}
 use Rattle.sand_shared.proofs.shared_pile.SharedPile.split_rows.Goals as goal

@@ -1,5 +1,4 @@
-use Rattle.std.proofs.Common.{◌-◌, length, [], ◌∷◌}
-use Rattle.sand_shared.specs.Events.{split}
+use Rattle.sand_shared.proofs.Common.{◌-◌, length, [], ◌∷◌, split}
 use Rattle.sand_shared.proofs.shared_pile.SharedPile.split_rows.Given as goal
 
 abbrev pub ghosts-split : goal.ghosts-split

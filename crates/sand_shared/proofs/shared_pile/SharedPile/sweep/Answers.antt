@@ -1,14 +1,6 @@
-use Rattle.std.proofs.Common.{◌≡◌, ℕ, ◌*◌, length, sym, refl, ap, ◌∙◌, subst, arith}
-use Rattle.atomic_table.specs.Table.{Me}
-use Rattle.sand_model.specs.Grid.{sites}
-use Rattle.sand_shared.specs.declared.view.View.{View}
-use Rattle.sand_shared.specs.declared.view.Terms.{Terms}
-use Rattle.sand_shared.specs.OpenPile.{grid_of_terms}
-use Rattle.sand_shared.specs.Bare.{shown}
-use Rattle.sand_shared.specs.Events.{looked}
-use Rattle.sand_shared.specs.Passes.{PassView, SharedView}
-use Rattle.sand_shared.specs.Seats.{HasAll}
-use Rattle.sand_shared.specs.Sweeps.{SweptRows, SweptAll, Swept}
+-- The sites of the pass's rows are in the grid (`rows_inside`). What its seat has swept, the pass has (`pass_swept`),
+-- and afterwards the seat has what the pass has with the new counts (`seated`).
+use Rattle.sand_shared.proofs.Common.{◌≡◌, ℕ, ◌*◌, length, sym, refl, ap, ◌∙◌, subst, arith, Me, sites, View, Terms, grid_of_terms, shown, looked, PassView, SharedView, HasAll, SweptRows, SweptAll, Swept}
 use Rattle.sand_shared.proofs.RowSites.{rows_inside}
 use Rattle.sand_shared.proofs.SeatOfPass.{seated}
 use Rattle.sand_shared.proofs.SweptSiteBySite.{pass_swept}

@@ -1,7 +1,6 @@
-use Rattle.std.proofs.Common.{ℕ, refl, ap, ◌∙◌, arith}
-use Rattle.atomic_table.specs.Table.{Me}
-use Rattle.sand_shared.specs.declared.view.View.{View}
-use Rattle.sand_shared.specs.Bare.{shown}
+-- The pass had seen no more drops than are counted now (`counted_fresh`), so the numbers of its receipts are still
+-- below what it has seen.
+use Rattle.sand_shared.proofs.Common.{ℕ, refl, ap, ◌∙◌, arith, Me, View, shown}
 use Rattle.sand_shared.specs.Events.{counted}
 use Rattle.sand_shared.proofs.SeatOfPass.{counted_is, counted_fresh, with_receipts, seated}
 use Rattle.sand_shared.proofs.shared_pile.SharedPile.tally.Goals as goal

@@ -1,5 +1,4 @@
-use Rattle.std.proofs.Common.{[], ◌∷◌}
-use Rattle.sand_shared.specs.Events.{count}
+use Rattle.sand_shared.proofs.Common.{[], ◌∷◌, count}
 use Rattle.sand_shared.proofs.shared_pile.SharedPile.tally.Given as goal
 
 abbrev pub ghosts-count : goal.ghosts-count

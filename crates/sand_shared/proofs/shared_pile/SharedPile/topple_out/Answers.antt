@@ -1,8 +1,6 @@
-use Rattle.std.proofs.Common.{ℕ, ◌<◌, List, All, length, sym, ap, ◌∙◌, subst, arith, rules}
-use Rattle.sand_shared.specs.declared.view.Receipt.{Receipt}
-use Rattle.sand_shared.specs.declared.view.Terms.{Terms}
-use Rattle.sand_shared.specs.Passes.{SharedView, PassView, EachOnce}
-use Rattle.sand_shared.specs.Record.{Tells}
+-- A whole pass that has swept until nothing toppled closes the table (`closed_by`). So its counts are the least
+-- odometer of the start and the history (`closed_leads`), and the history is told by its receipts (`gathered_record`).
+use Rattle.sand_shared.proofs.Common.{ℕ, ◌<◌, List, All, length, sym, ap, ◌∙◌, subst, arith, rules, Receipt, Terms, SharedView, PassView, EachOnce, Tells}
 use Rattle.sand_shared.proofs.RecordSums.{LeadsTo}
 use Rattle.sand_shared.proofs.LastPileIsSettled.{gathered_seen, gathered_record, closed_by, closed_leads}
 use Rattle.sand_shared.proofs.shared_pile.SharedPile.topple_out.Goals as goal

@@ -1,5 +1,4 @@
-use Rattle.std.proofs.Common.{sym, ap, ◌∙◌, subst}
-use Rattle.sand_shared.specs.Passes.{PassView, EachOnce}
+use Rattle.sand_shared.proofs.Common.{sym, ap, ◌∙◌, subst, PassView, EachOnce}
 use Rattle.sand_shared.proofs.shared_pile.SharedPile.write_history.Goals as goal
 
 pub fill-requires-clause-once : goal.fill-requires-clause-once

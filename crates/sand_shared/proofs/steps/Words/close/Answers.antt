@@ -1,10 +1,6 @@
-use Rattle.std.proofs.Common.{◌≡◌, ℕ, ◌+◌, List, sym, ap, ◌∙◌, subst, arith}
-use Rattle.std.specs.Prelude.{slice_index}
-use Rattle.sand_model.specs.Grid.{sites}
-use Rattle.sand_shared.specs.declared.view.Terms.{Terms}
-use Rattle.sand_shared.specs.OpenPile.{grid_of_terms}
-use Rattle.sand_shared.specs.Passes.{SharedView}
-use Rattle.sand_shared.specs.Running.{IsRunning}
+-- The rule holds of the last state: its words show a lawful open pile, on which the pass has what its seat has
+-- (`last_is`).
+use Rattle.sand_shared.proofs.Common.{◌≡◌, ℕ, ◌+◌, List, sym, ap, ◌∙◌, subst, arith, slice_index, sites, Terms, grid_of_terms, SharedView, IsRunning}
 use Rattle.sand_shared.proofs.StepsAreEvents.{last_is}
 use Rattle.sand_shared.proofs.steps.Words.close.Goals as goal
 

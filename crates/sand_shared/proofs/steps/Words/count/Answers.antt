@@ -1,5 +1,4 @@
-use Rattle.std.proofs.Common.{[], ◌∷◌, arith}
-use Rattle.sand_shared.specs.Events.{count}
+use Rattle.sand_shared.proofs.Common.{[], ◌∷◌, arith, count}
 use Rattle.sand_shared.proofs.StepsAreEvents.{counts}
 use Rattle.sand_shared.proofs.StepsOnWords.{asks}
 use Rattle.sand_shared.proofs.steps.Words.count.Goals as goal

@@ -1,5 +1,4 @@
-use Rattle.std.proofs.Common.{[], ◌∷◌, ◌+◌, ◌%◌, ◌^◌, arith}
-use Rattle.sand_shared.specs.Events.{deliver}
+use Rattle.sand_shared.proofs.Common.{[], ◌∷◌, ◌+◌, ◌%◌, ◌^◌, arith, deliver}
 use Rattle.sand_shared.proofs.HandAfterPlacing.{first_counts}
 use Rattle.sand_shared.proofs.StepsAreEvents.{delivers}
 use Rattle.sand_shared.proofs.StepsOnWords.{asks}

@@ -1,7 +1,7 @@
-use Rattle.std.proofs.Common.{refl, rules, ◌∙◌}
-use Rattle.sand_model.specs.Grid.{sites}
+-- Before each place the hand has the grains for it and for the places after it, and for a place outside the grid none
+-- (`hand`). So what is delivered next is first in the hand (`first_in_hand`).
+use Rattle.sand_shared.proofs.Common.{refl, rules, ◌∙◌, sites, grid_of_terms}
 use Rattle.sand_model.proofs.Neighbours.{place_inside}
-use Rattle.sand_shared.specs.OpenPile.{grid_of_terms}
 use Rattle.sand_shared.proofs.SentToNeighbours.{all_in_hand, first_in_hand, rest_in_hand, none_in_hand}
 use Rattle.sand_shared.proofs.steps.Words.deliver_around.Goals as goal
 

@@ -1,5 +1,4 @@
-use Rattle.std.proofs.Common.{◌≡◌, drop}
-use Rattle.sand_shared.specs.Seats.{StaysSeated}
+use Rattle.sand_shared.proofs.Common.{◌≡◌, drop, StaysSeated}
 use Rattle.sand_shared.proofs.SentToNeighbours.{sends}
 use Rattle.sand_shared.proofs.steps.Words.deliver_around.Given as goal
 

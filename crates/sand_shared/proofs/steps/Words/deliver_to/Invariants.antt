@@ -1,5 +1,4 @@
-use Rattle.std.proofs.Common.{[], ◌∷◌}
-use Rattle.sand_shared.specs.Events.{deliver}
+use Rattle.sand_shared.proofs.Common.{[], ◌∷◌, deliver}
 use Rattle.sand_shared.proofs.steps.Words.deliver_to.Given as goal
 
 abbrev pub ghosts-deliver : goal.ghosts-deliver

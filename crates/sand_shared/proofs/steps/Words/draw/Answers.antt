@@ -1,5 +1,4 @@
-use Rattle.std.proofs.Common.{◌+◌, ◌%◌, ◌^◌, arith, length}
-use Rattle.sand_shared.specs.Events.{all_draws}
+use Rattle.sand_shared.proofs.Common.{◌+◌, ◌%◌, ◌^◌, arith, length, all_draws}
 use Rattle.sand_shared.proofs.EventsInARow.{draws_row}
 use Rattle.sand_shared.proofs.StepsOnWords.{asks}
 use Rattle.sand_shared.proofs.steps.Words.draw.Goals as goal

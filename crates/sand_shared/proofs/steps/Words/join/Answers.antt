@@ -1,9 +1,5 @@
-use Rattle.std.proofs.Common.{arith, sym, subst}
-use Rattle.atomic_table.specs.Table.{Joins}
-use Rattle.sand_shared.specs.declared.view.Terms.{Terms}
-use Rattle.sand_shared.specs.OpenPile.{nobody}
-use Rattle.sand_shared.specs.Events.{joined}
-use Rattle.sand_shared.specs.Running.{IsRunning}
+-- The rule allows two passes with empty hands and rows that touch to become one, at any moment (`joins`).
+use Rattle.sand_shared.proofs.Common.{arith, sym, subst, Joins, Terms, nobody, joined, IsRunning}
 use Rattle.sand_shared.proofs.StepsAreEvents.{joins}
 use Rattle.sand_shared.proofs.StepsOnWords.{key_now, has_word, at_table}
 use Rattle.sand_shared.proofs.steps.Words.join.Goals as goal

@@ -1,5 +1,4 @@
-use Rattle.std.proofs.Common.{[], ◌∷◌, ◌+◌, arith}
-use Rattle.sand_shared.specs.Events.{look}
+use Rattle.sand_shared.proofs.Common.{[], ◌∷◌, ◌+◌, arith, look}
 use Rattle.sand_shared.proofs.StepsAreEvents.{looks}
 use Rattle.sand_shared.proofs.StepsOnWords.{asks}
 use Rattle.sand_shared.proofs.steps.Words.look.Goals as goal

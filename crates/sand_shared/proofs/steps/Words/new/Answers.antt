@@ -1,7 +1,4 @@
-use Rattle.std.proofs.Common.{rules, ◌≡◌, ℕ, List, [], ◌∷◌, sym, subst}
-use Rattle.atomic_table.specs.Table.{opening}
-use Rattle.sand_shared.specs.Events.{first_pass}
-use Rattle.sand_shared.specs.Running.{IsRunning}
+use Rattle.sand_shared.proofs.Common.{rules, ◌≡◌, ℕ, List, [], ◌∷◌, sym, subst, opening, first_pass, IsRunning}
 use Rattle.sand_shared.proofs.StepsAreEvents.{opens}
 use Rattle.sand_shared.proofs.steps.Words.new.Goals as goal
 

@@ -1,5 +1,4 @@
-use Rattle.std.proofs.Common.{◌+◌, ◌%◌, ◌^◌, arith}
-use Rattle.sand_shared.specs.Events.{all_places}
+use Rattle.sand_shared.proofs.Common.{◌+◌, ◌%◌, ◌^◌, arith, all_places}
 use Rattle.sand_shared.proofs.EventsInARow.{places_row}
 use Rattle.sand_shared.proofs.StepsOnWords.{asks}
 use Rattle.sand_shared.proofs.steps.Words.place.Goals as goal

@@ -1,11 +1,8 @@
-use Rattle.std.proofs.Common.{ℕ, ◌+◌, List, [], drop, get_or, sym, refl, ap, ◌∙◌, subst, arith, Vec, Global}
+-- The counts say how many grains in hand are for each site, and such a site is still to come in the list (`Waits`).
+-- When it first comes, all its grains are laid (`waits_laid`); later it has none (`waits_past`). So in the end the
+-- hand is empty (`hand_empty`).
+use Rattle.sand_shared.proofs.Common.{ℕ, ◌+◌, List, [], drop, get_or, sym, refl, ap, ◌∙◌, subst, arith, Vec, Global, drop_all, drop_more, sites, View, Grains, grid_of_terms, StaysSeated}
 use Rattle.atomic_table.specs.declared.shared.Seat.{Seat}
-use Rattle.std.proofs.lemmas.List.{drop_all, drop_more}
-use Rattle.sand_model.specs.Grid.{sites}
-use Rattle.sand_shared.specs.declared.view.View.{View}
-use Rattle.sand_shared.specs.declared.view.Grains.{Grains}
-use Rattle.sand_shared.specs.OpenPile.{grid_of_terms}
-use Rattle.sand_shared.specs.Seats.{StaysSeated}
 use Rattle.sand_shared.proofs.HandAfterPlacing.{Waits, read_count, waits_all, waits_past, waits_laid, count_is, hand_empty, counts_zero, laid_on}
 use Rattle.sand_shared.proofs.EventsInARow.{laid_is}
 use Rattle.sand_shared.proofs.StepsOnWords.{stays_on}

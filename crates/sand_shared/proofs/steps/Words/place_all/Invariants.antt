@@ -1,8 +1,4 @@
-use Rattle.std.proofs.Common.{◌≡◌, drop}
-use Rattle.sand_model.specs.Grid.{sites}
-use Rattle.sand_shared.specs.OpenPile.{grid_of_terms}
-use Rattle.sand_shared.specs.Events.{all_places}
-use Rattle.sand_shared.specs.Seats.{StaysSeated}
+use Rattle.sand_shared.proofs.Common.{◌≡◌, drop, sites, grid_of_terms, all_places, StaysSeated}
 use Rattle.sand_shared.proofs.HandAfterPlacing.{Waits}
 use Rattle.sand_shared.proofs.steps.Words.place_all.Given as goal
 

@@ -1,15 +1,7 @@
-use Rattle.std.proofs.Common.{◌≡◌, ◌+◌, ◌*◌, [], ◌∷◌, length, sym, ap, ◌∙◌, subst, arith, length-append}
-use Rattle.std.specs.Prelude.{slice_index}
-use Rattle.std.proofs.lemmas.Grind.{common_steps}
-use Rattle.sand_model.specs.Grid.{sites}
-use Rattle.sand_model.specs.Sand.{flow, IsToppled}
-use Rattle.sand_shared.specs.declared.view.View.{View}
-use Rattle.sand_shared.specs.declared.view.Terms.{Terms}
-use Rattle.sand_shared.specs.OpenPile.{grid_of_terms, toppled_by}
-use Rattle.sand_shared.specs.Events.{looked}
-use Rattle.sand_shared.specs.Running.{Stands}
-use Rattle.sand_shared.specs.Seats.{HasAll}
-use Rattle.sand_shared.specs.Sweeps.{start_and_receipts}
+-- Nobody else can change the pile of a whole pass: each look finds the start and the receipts, less Lu for its counts
+-- u (`looked_exactly`). By the load at the end the pass is on a lawful pile, so it has toppled no more than needed
+-- (`is_underway`), and the heights are within the limit (`left_few`).
+use Rattle.sand_shared.proofs.Common.{◌≡◌, ◌+◌, ◌*◌, [], ◌∷◌, length, sym, ap, ◌∙◌, subst, arith, length-append, slice_index, common_steps, sites, flow, IsToppled, View, Terms, grid_of_terms, toppled_by, looked, Stands, HasAll, start_and_receipts}
 use Rattle.sand_shared.proofs.SeatOfPass.{looked_is}
 use Rattle.sand_shared.proofs.LastPileIsSettled.{left_few, is_underway}
 use Rattle.sand_shared.proofs.PassKnowsPile.{looked_exactly}
@@ -49,6 +41,7 @@ counted : (c : goal.After-learn) → c.sites-sites.result ≡ sites (grid_of_ter
 counted c = c.sites-sites.ensures.value
     ∙ ap sites (c.shape.ensures.value ∙ ap (λ (t : Terms). grid_of_terms t) c.terms.ensures.value)
 
+-- the heights read are s - Lu, for the start with the receipts s and the counts u
 left_there : (c : goal.After-learn)
     → IsToppled (grid_of_terms c.args.self.now.terms) (start_and_receipts c.args.self.now.terms c.args.seat.now.me.0)
     (toppled_by c.args.seat.now.me.0) (slice_index c.sites.heights.items)

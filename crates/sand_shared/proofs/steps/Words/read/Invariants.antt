@@ -1,8 +1,4 @@
-use Rattle.std.proofs.Common.{◌≡◌, ℕ, ◌+◌, ◌*◌, ◌<◌, ◌≤◌, [], length, get_or, vec_capacity, ◌∷◌}
-use Rattle.sand_model.specs.Sand.{flow}
-use Rattle.sand_shared.specs.OpenPile.{grid_of_terms, toppled_by}
-use Rattle.sand_shared.specs.Events.{look, looked}
-use Rattle.sand_shared.specs.Sweeps.{start_and_receipts}
+use Rattle.sand_shared.proofs.Common.{◌≡◌, ℕ, ◌+◌, ◌*◌, ◌<◌, ◌≤◌, [], length, get_or, vec_capacity, ◌∷◌, flow, grid_of_terms, toppled_by, look, looked, start_and_receipts}
 use Rattle.sand_shared.proofs.steps.Words.read.Given as goal
 
 abbrev pub invariant-sites : goal.invariant-sites

@@ -1,17 +1,15 @@
-use Rattle.std.proofs.Common.{◌≡◌, ℕ, ◌+◌, ◌-◌, ◌/◌, ◌^◌, ◌<◌, ◌≤◌, length, set, get_or, sum, sym, ap, ◌∙◌, subst, arith, rules, length-set}
+-- What the pass itself knows to be at the site is at most what the look finds (`looked_at_most`), and for a whole pass
+-- exactly that (`looked_exactly`). The seat is on a lawful pile, after an unload too (`stands_unloaded`): so its
+-- counts are bounded (`stands_few`), and a whole pass topples no more than needed (`stands_sparing`).
+use Rattle.sand_shared.proofs.Common.{◌≡◌, ℕ, ◌+◌, ◌-◌, ◌/◌, ◌^◌, ◌<◌, ◌≤◌, length, set, get_or, sum, sym, ap, ◌∙◌, subst, arith, rules, sites, View, Terms, grid_of_terms, looked, unloaded, raised, HasAll, IsSparing}
+use Rattle.std.proofs.Common.{length-set}
 use lib.Seq.{set-get_or}
-use Rattle.sand_model.specs.Grid.{sites}
-use Rattle.sand_shared.specs.declared.view.View.{View}
-use Rattle.sand_shared.specs.declared.view.Terms.{Terms}
-use Rattle.sand_shared.specs.OpenPile.{grid_of_terms}
-use Rattle.sand_shared.specs.Events.{looked, unloaded, raised}
-use Rattle.sand_shared.specs.Seats.{HasAll}
-use Rattle.sand_shared.specs.Sweeps.{IsSparing}
 use Rattle.sand_shared.proofs.GrainsAtSite.{holds-unloaded}
 use Rattle.sand_shared.proofs.SeatOfPass.{looked_is, unloaded_is}
 use Rattle.sand_shared.proofs.PassKnowsPile.{stands_few, stands_sparing, looked_at_most, looked_exactly, stands_unloaded}
 use Rattle.sand_shared.proofs.steps.Words.relieve.Goals as goal
 
+-- what the seat has after the look and the unload
 unloaded_view : (c : goal.After-deliver_around)
     → c.unload.new.seat.me.0 ≡ unloaded c.args.self.now.terms
     (looked c.args.seat.now.me.0 c.args.site c.look-times.result) c.args.site (c.look-times.result / 4)
@@ -31,6 +29,7 @@ unloaded_rows c =
     subst (λ (u : View). u.base + length u.counts ≤ sites (grid_of_terms c.args.self.now.terms))
     (sym (unloaded_view c)) (omega arith)
 
+-- a pass that had everything has it still
 still_all : (t : Terms) (v : View) (i k n : ℕ) → HasAll t v → HasAll t (unloaded t (looked v i n) i k)
 still_all t v i k n all =
     record { quota = all.quota; all_sites = λ j l. holds-unloaded t (looked v i n) i k j ∙ all.all_sites j l }

@@ -1,5 +1,4 @@
-use Rattle.std.proofs.Common.{[], ◌∷◌}
-use Rattle.sand_shared.specs.Events.{look, unload}
+use Rattle.sand_shared.proofs.Common.{[], ◌∷◌, look, unload}
 use Rattle.sand_shared.proofs.steps.Words.relieve.Given as goal
 
 abbrev pub ghosts-look : goal.ghosts-look

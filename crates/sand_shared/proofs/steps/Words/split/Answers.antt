@@ -1,10 +1,6 @@
-use Rattle.std.proofs.Common.{ℕ, List, ◌-◌, length, arith, sym, ap, ◌∙◌, subst}
-use Rattle.atomic_table.specs.Table.{Me, Splits}
-use Rattle.sand_shared.specs.declared.view.View.{View}
-use Rattle.sand_shared.specs.declared.view.Terms.{Terms}
-use Rattle.sand_shared.specs.Events.{Event, parent, child}
-use Rattle.sand_shared.specs.Plays.{quota_given, sites_given}
-use Rattle.sand_shared.specs.Running.{IsRunning}
+-- The rule allows the split at any moment (`splits`). The quota and the sites that the play gives away are those of
+-- the event that was picked for the call.
+use Rattle.sand_shared.proofs.Common.{ℕ, List, ◌-◌, length, arith, sym, ap, ◌∙◌, subst, Me, Splits, View, Terms, Event, parent, child, quota_given, sites_given, IsRunning}
 use Rattle.sand_shared.proofs.StepsAreEvents.{splits}
 use Rattle.sand_shared.proofs.StepsOnWords.{key_now, has_word, at_table}
 use Rattle.sand_shared.proofs.steps.Words.split.Goals as goal

@@ -1,6 +1,5 @@
-use Rattle.std.proofs.Common.{◌≡◌, ℕ, ◌-◌, ◌^◌, ◌≤◌, [], length, sum}
-use Rattle.std.specs.Prelude.{slice_index}
-use Rattle.sand_shared.specs.Events.{looked}
+-- A sweep that topples raises the sum of the counts, and after each sweep this is below 2^54: so the sweeps end.
+use Rattle.sand_shared.proofs.Common.{◌≡◌, ℕ, ◌-◌, ◌^◌, ◌≤◌, [], length, sum, slice_index, looked}
 use Rattle.sand_shared.proofs.steps.Words.sweep_out.Given as goal
 
 abbrev pub invariant-sweeps : goal.invariant-sweeps

@@ -1,10 +1,6 @@
-use Rattle.std.proofs.Common.{◌≡◌, ℕ, ◌+◌, ◌<◌, ◌≤◌, List, length, set, get_or, sym, ap, ◌∙◌, subst, arith}
-use Rattle.std.proofs.lemmas.List.{get_or_read, set-get_or}
-use Rattle.sand_model.specs.Grid.{sites}
-use Rattle.sand_shared.specs.declared.view.View.{View}
-use Rattle.sand_shared.specs.OpenPile.{grid_of_terms}
-use Rattle.sand_shared.specs.Events.{looked}
-use Rattle.sand_model.proofs.Bounds.{sites_limit}
+-- What a sweep promises holds of the sites before the next one (`Sweeps`), and each turn carries it on (`next_swept`),
+-- that of a site that does not topple, too. At the end it holds of all sites (`sweeps_end`, `sweeps_all`).
+use Rattle.sand_shared.proofs.Common.{◌≡◌, ℕ, ◌+◌, ◌<◌, ◌≤◌, List, length, set, get_or, sym, ap, ◌∙◌, subst, arith, get_or_read, set-get_or, sites, View, grid_of_terms, looked, sites_limit}
 use Rattle.sand_shared.proofs.StepsOnWords.{stays_on}
 use Rattle.sand_shared.proofs.SweptSiteBySite.{Sweeps, Relieved, next_view, next_swept, sweeps_end, sweeps_all, sweeps_few}
 use Rattle.sand_shared.proofs.steps.Words.sweep_rows.Goals as goal
@@ -21,6 +17,7 @@ inside c =
     let first = ap (λ (l : List ℕ). length l) c.requires.counts.1 in
     (omega arith, omega arith)
 
+-- what the turn at the site tells, in terms of the sweep
 did : (c : After-relieve-times)
     → let v = c.args.seat.now.me.0 in
     let me = c.sites.seat.me.0 in

@@ -1,6 +1,4 @@
-use Rattle.std.proofs.Common.{◌≡◌}
-use Rattle.sand_shared.specs.Events.{looked}
-use Rattle.sand_shared.specs.Seats.{StaysSeated}
+use Rattle.sand_shared.proofs.Common.{◌≡◌, looked, StaysSeated}
 use Rattle.sand_shared.proofs.SweptSiteBySite.{Sweeps}
 use Rattle.sand_shared.proofs.steps.Words.sweep_rows.Given as goal
 

@@ -1,5 +1,6 @@
-use Rattle.std.proofs.Common.{[], ◌∷◌, ◌+◌, ◌-◌, ◌*◌, ◌%◌, ◌^◌, arith}
-use Rattle.sand_shared.specs.Events.{unload}
+-- To subtract is to add 2^64 - 4k modulo 2^64. The word has at least the 4k found before, as only this pass takes
+-- grains from it (`unloads`).
+use Rattle.sand_shared.proofs.Common.{[], ◌∷◌, ◌+◌, ◌-◌, ◌*◌, ◌%◌, ◌^◌, arith, unload}
 use Rattle.sand_shared.proofs.StepsAreEvents.{unloads}
 use Rattle.sand_shared.proofs.StepsOnWords.{asks}
 use Rattle.sand_shared.proofs.steps.Words.unload.Goals as goal

@@ -1,7 +1,5 @@
-use Rattle.std.proofs.Common.{arith}
-use Rattle.std.proofs.lemmas.Result.{IfErr-weaker, IfOk-weaker, err_from_is_err_and}
+use Rattle.sand_text.proofs.Common.{arith, IfErr-weaker, IfOk-weaker, err_from_is_err_and, usual}
 use Rattle.sand_text.proofs.Growing.{breaks_before, breaks_on, grows_on}
-use Rattle.sand_text.proofs.Usual.{usual}
 use Rattle.sand_text.proofs.blocks.Blocks.push_pile.Goals as goal
 
 pub returns-in_err-push_shape-clause-err : goal.returns-in_err-push_shape-clause-err

@@ -1,10 +1,6 @@
-use Rattle.std.proofs.Common.{◌≡◌, mul_comm, ◌++◌, ◌-◌, ◌+◌, [], arith, append_assoc, append-nil, refl, ◌∙◌}
-use Rattle.std.proofs.Math.Nat.{sub-zero}
-use Rattle.std.proofs.lemmas.Result.{err_from_is_err_and}
-use Rattle.sand_text.specs.Texts.{row_text, rows_text, sites_text}
+use Rattle.sand_text.proofs.Common.{◌≡◌, mul_comm, ◌++◌, ◌-◌, ◌+◌, [], arith, append_assoc, append-nil, refl, ◌∙◌, sub-zero, err_from_is_err_and, row_text, rows_text, sites_text, usual}
 use Rattle.sand_text.proofs.Growing.{stays, grows_on, breaks_within}
 use Rattle.sand_text.proofs.RowSteps.{rows_text-next, rows_text-none, fewer_rows}
-use Rattle.sand_text.proofs.Usual.{usual}
 use Rattle.sand_text.proofs.blocks.Blocks.push_sites.Goals as goal
 
 pub rows-init : goal.rows-init

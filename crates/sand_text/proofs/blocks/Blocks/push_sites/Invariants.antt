@@ -1,6 +1,5 @@
-use Rattle.std.proofs.Common.{◌≡◌, ◌++◌, ◌-◌, ◌*◌, List, ℕ, length}
+use Rattle.sand_text.proofs.Common.{◌≡◌, ◌++◌, ◌-◌, ◌*◌, List, ℕ, length, rows_text}
 use Rattle.sand_text.specs.Blocks.{GrowsBy}
-use Rattle.sand_text.specs.Texts.{rows_text}
 use Rattle.sand_text.proofs.blocks.Blocks.push_sites.Given as goal
 
 abbrev pub invariant-rows : goal.invariant-rows

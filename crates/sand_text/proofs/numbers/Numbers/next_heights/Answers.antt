@@ -1,6 +1,5 @@
-use Rattle.std.proofs.Common.{arith, length-drop}
+use Rattle.sand_text.proofs.Common.{arith, length-drop, usual}
 use Rattle.sand_text.proofs.Taking.{next_of, one_more}
-use Rattle.sand_text.proofs.Usual.{usual}
 use Rattle.sand_text.proofs.numbers.Numbers.next_heights.Goals as goal
 use Rattle.sand_text.proofs.numbers.Numbers.next_heights.Goals.{in-Some, in_default}
 

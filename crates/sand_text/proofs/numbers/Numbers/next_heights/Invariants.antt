@@ -1,5 +1,4 @@
-use Rattle.std.proofs.Common.{◌≡◌, take, drop, vec_capacity}
-use Rattle.sand_text.specs.Left.{numbers_left}
+use Rattle.sand_text.proofs.Common.{◌≡◌, take, drop, vec_capacity, numbers_left}
 use Rattle.sand_text.proofs.numbers.Numbers.next_heights.Given as goal
 
 abbrev pub invariant-sites : goal.invariant-sites

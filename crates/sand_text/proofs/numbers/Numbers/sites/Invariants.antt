@@ -1,5 +1,4 @@
-use Rattle.std.proofs.Common.{◌≡◌, ◌++◌, vec_capacity}
-use Rattle.sand_text.specs.Left.{numbers_left}
+use Rattle.sand_text.proofs.Common.{◌≡◌, ◌++◌, vec_capacity, numbers_left}
 use Rattle.sand_text.proofs.numbers.Numbers.sites.Given as goal
 
 abbrev pub invariant-loop-site : goal.invariant-loop-site

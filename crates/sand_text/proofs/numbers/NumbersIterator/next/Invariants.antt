@@ -1,5 +1,4 @@
-use Rattle.std.proofs.Common.{◌≡◌, length}
-use Rattle.sand_text.specs.Left.{tokens_left, numbers_left}
+use Rattle.sand_text.proofs.Common.{◌≡◌, length, tokens_left, numbers_left}
 use Rattle.sand_text.proofs.numbers.NumbersIterator.next.Given as goal
 
 abbrev pub invariant-tokens : goal.invariant-tokens

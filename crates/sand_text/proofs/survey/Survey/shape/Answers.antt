@@ -1,6 +1,5 @@
-use Rattle.std.proofs.Common.{arith, ◌∙◌, sym}
+use Rattle.sand_text.proofs.Common.{arith, ◌∙◌, sym, usual}
 use Rattle.sand_text.proofs.Shapes.{wrong_count, too_many, shaped}
-use Rattle.sand_text.proofs.Usual.{usual}
 use Rattle.sand_text.proofs.survey.Survey.shape.Goals as goal
 
 pub returns-then-not-is_count-clause-err : goal.returns-then-not-is_count-clause-err

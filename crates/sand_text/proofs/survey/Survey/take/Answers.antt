@@ -1,9 +1,5 @@
-use Rattle.std.proofs.Common.{arith, ◌≡◌}
-use Rattle.std.proofs.lemmas.Bool.{both_ways}
-use Rattle.sand_model.specs.declared.shape.Edge.TheVariants.{Cylinder}
-use Rattle.sand_text.specs.declared.tokens.Token.TheVariants.{Number, Letter}
+use Rattle.sand_text.proofs.Common.{arith, ◌≡◌, both_ways, Cylinder, Number, Letter, usual}
 use Rattle.sand_text.proofs.Surveying.{at_token, note_step, spare_step, strange_letter, strange_token}
-use Rattle.sand_text.proofs.Usual.{usual}
 use Rattle.sand_text.proofs.survey.Survey.take.Goals as goal
 
 pub returns-in-Number-clause-taken : goal.returns-in-Number-clause-taken

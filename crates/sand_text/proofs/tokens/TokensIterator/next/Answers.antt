@@ -1,6 +1,5 @@
-use Rattle.std.proofs.Common.{length, arith, ap}
+use Rattle.sand_text.proofs.Common.{length, arith, ap, usual}
 use Rattle.sand_text.proofs.Cuts.{none_left, token_left}
-use Rattle.sand_text.proofs.Usual.{usual}
 use Rattle.sand_text.proofs.tokens.TokensIterator.next.Goals as goal
 
 pub returns-then-is_empty-clause-steps : goal.returns-then-is_empty-clause-steps

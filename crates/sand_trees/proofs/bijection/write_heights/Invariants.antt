@@ -1,0 +1,9 @@
+use Rattle.sand_trees.proofs.Common.{ℕ, ◌≡◌, ◌<◌, length, slice_index, sites}
+use Rattle.sand_trees.specs.Walks.{IsHeightAt}
+use Rattle.sand_trees.proofs.bijection.write_heights.Given as goal
+
+abbrev pub invariant-loop-row : goal.invariant-loop-row
+invariant-loop-row l = record {
+  len : length l.heights ≡ sites l.lattice;
+  each : (k : ℕ) → k < l.done → IsHeightAt l.lattice (slice_index l.directions) (slice_index l.depths) k (slice_index l.heights k);
+}
