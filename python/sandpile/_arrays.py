@@ -170,19 +170,20 @@ def _first(array: NDArray[Any], which: NDArray[np.bool_]) -> str:
 
 def check_sides(shape: tuple[int, ...]) -> None:
     """Raises a fault for a side outside 1 to 256, before an array of such a shape is made."""
-    if not all(1 <= side <= _MOST_SIDE for side in shape):
+    if min(shape) < 1 or max(shape) > _MOST_SIDE:
         raise Fault(1)
 
 
 def shape_of(shape: Sequence[SupportsIndex]) -> tuple[int, int]:
     """The height and the width, which must be integers."""
     try:
-        height, width = (index_of(side, "a side") for side in shape)
+        height, width = shape
+        sides = index_of(height, "a side"), index_of(width, "a side")
     except (TypeError, ValueError) as error:
         kind = ShapeError if isinstance(error, ValueError) else TypeError
         raise kind(f"a shape must be two integers, (height, width), not {shape!r}") from None
-    check_sides((height, width))
-    return height, width
+    check_sides(sides)
+    return sides
 
 
 def directions_of(directions: ArrayLike) -> NDArray[np.uint8]:

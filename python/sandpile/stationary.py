@@ -7,6 +7,7 @@ the tree, by the burning bijection (Majumdar and Dhar 1992). Each step is two bi
 
 from __future__ import annotations
 
+import ctypes
 from typing import Any, Sequence, SupportsIndex
 
 import numpy as np
@@ -77,10 +78,11 @@ def random_recurrent(
 def drawn(shape: tuple[int, int], seed: np.random.SeedSequence, edge: bool) -> Recurrent:
     """The pile of a seed."""
     heights = np.empty(shape, np.int64)
-    # NumPy takes twice as long to generate two numbers of 64 bits, the same ones.
+    # NumPy takes twice as long to generate two numbers of 64 bits, the same ones, and to tell the address itself.
     low, high, stream_low, stream_high = listed(seed.generate_state(4))
     words = low | high << 32, stream_low | stream_high << 32
-    call_at("sandpile_random", shape[1], shape[0], edge, *words, heights.ctypes.data, heights.size)
+    address = ctypes.addressof(ctypes.c_int64.from_buffer(heights))
+    call_at("sandpile_random", shape[1], shape[0], edge, *words, address, heights.size)
     return Recurrent._known(heights, edge)
 
 
@@ -95,7 +97,7 @@ def _checked_seed(seed: Any) -> int | list[int]:
     """The integers of a seed, or the only one, of which NumPy makes the same sequence as of a list with it, but faster."""
     are_many = isinstance(seed, (list, tuple, range)) or isinstance(seed, np.ndarray) and seed.ndim
     try:
-        numbers = [index_of(number, "seed") for number in (seed if are_many else [seed])]
+        numbers = [index_of(number, "seed") for number in seed] if are_many else [index_of(seed, "seed")]
     except TypeError:
         kinds = "an integer, a sequence of integers, a numpy.random.SeedSequence or None"
         raise TypeError(f"seed must be {kinds}, not {seed!r}") from None

@@ -2,11 +2,14 @@
 //!
 //! From each site that is not yet in the tree, a random walk goes on until it meets the tree or the sink, and notes at each
 //! site how it leaves it last. These notes are the walk without its loops. They are followed to the tree, whose depth
-//! is known there, and the sites on the way join it, from the last one on, each one edge deeper.
+//! is known there, and once more to add the sites on the way to the tree, each one edge nearer to it than the last.
 //!
 //! The walks go over a frame: rows of cells, one for each site and one more at the end of the row, with a row above and one
 //! below. What is outside the grid is the sink or, on a cylinder, the seam, where a row goes on at its other end. So a step
 //! needs no test of where the edge is.
+//!
+//! Three walks of five end after one step. Nobody can predict which sites these are, or which are in the tree already, so
+//! both kinds are passed without a branch.
 //!
 //! Of all this it is proved only that it is safe and ends.
 
@@ -25,18 +28,24 @@ const JOINED: u32 = 0x8000_0000;
 // A cell between the last site of a row of a cylinder and the first one of the next.
 const SEAM: u32 = u32::MAX;
 
-// The steps of all walks after which there are no more, 2^40.
-const STEP_LIMIT: u64 = 1_099_511_627_776;
+// The steps of two words of the stream.
+const STEPS: u32 = 32;
 
-// The steps of a word of the stream.
-const STEPS_A_WORD: u64 = 16;
+// The pairs of words after which no walk goes on: 2^40 steps.
+const PAIR_LIMIT: u64 = 34_359_738_368;
 
-// The words of a stream, and how many steps they have made.
+// The words of a stream, and how many pairs of them were read.
 #[derive(Drop)]
+struct Words {
+    stream: ChaCha8Rng,
+    pairs: u64,
+}
+
+// Steps to come: two bits each, from the low ones on.
+#[derive(Clone, Copy)]
 struct Steps {
-    words: ChaCha8Rng,
-    word: u32,
-    made: u64,
+    bits: u64,
+    left: u32,
 }
 
 // Which cell is next, by direction, and from a seam.
@@ -44,6 +53,18 @@ struct Steps {
 struct Ways {
     near: [u32; 4],
     around: [u32; 4],
+}
+
+impl Words {
+    fn next_steps(&mut self) -> Steps {
+        let low = self.stream.next_word();
+        let high = self.stream.next_word();
+        self.pairs = self.pairs.saturating_add(1);
+        Steps {
+            bits: u64::from(low) | u64::from(high) << 32,
+            left: STEPS,
+        }
+    }
 }
 
 #[inline(always)]
@@ -63,59 +84,92 @@ fn set_cell(cells: &mut [u32], place: u32, cell: u32) {
     }
 }
 
-// Walks from a place to the tree or the sink.
-fn wander(cells: &mut [u32], ways: &Ways, steps: &mut Steps, from: u32)
+// A cell in the tree, so many edges before one that is there already.
+#[inline(always)]
+fn joined(met: u32, edges: u32, direction: u32) -> u32 {
+    (met - met % 4).wrapping_add(edges.wrapping_mul(4)) | direction
+}
+
+// The cell that a step meets.
+#[inline(always)]
+fn met_by(cells: &[u32], ways: &Ways, from: u32, direction: u32) -> u32
+    requires { direction < 4 }
+{
+    let next = from.wrapping_add(ways.near[direction as usize]);
+    let met = cell_at(cells, next);
+    if met != SEAM {
+        return met;
+    }
+    cell_at(cells, next.wrapping_add(ways.around[direction as usize]))
+}
+
+// Walks on from a place by these steps. Returns where to, what steps are left, and whether the last one met the tree or the
+// sink. Most steps do not: one test finds this.
+#[inline(always)]
+fn stroll(cells: &mut [u32], ways: &Ways, steps: Steps, from: u32) -> (u32, Steps, bool)
+    requires { from < length cells.old }
+    ensures { result.0 < length cells.new }
+{
+    let mut here = from;
+    let mut bits = steps.bits;
+    for left in (0..steps.left).rev() {
+        let direction = (bits % 4) as u32;
+        bits /= 4;
+        let mut next = here.wrapping_add(ways.near[direction as usize]);
+        let mut met = cell_at(cells, next);
+        if met >= JOINED {
+            if met == SEAM {
+                next = next.wrapping_add(ways.around[direction as usize]);
+                met = cell_at(cells, next);
+            }
+            if met >= JOINED {
+                cells[here as usize] = next.wrapping_mul(4) | direction;
+                return (here, Steps { bits, left }, true);
+            }
+        }
+        cells[here as usize] = next.wrapping_mul(4) | direction;
+        here = next;
+    }
+    (here, Steps { bits, left: 0 }, false)
+}
+
+// Walks from a place to the tree or the sink. Returns what steps are left.
+fn wander(cells: &mut [u32], ways: &Ways, words: &mut Words, steps: Steps, from: u32) -> Steps
     requires { from < length cells.old }
 {
     let mut here = from;
-    let mut word = steps.word;
-    let mut made = steps.made;
-    for step in steps.made..STEP_LIMIT {
-        if step % STEPS_A_WORD == 0 {
-            word = steps.words.next_word();
+    let mut steps = steps;
+    for _ in words.pairs..PAIR_LIMIT {
+        let (place, left, has_met) = stroll(cells, ways, steps, here);
+        if has_met {
+            return left;
         }
-        let direction = word % 4;
-        word /= 4;
-        made = step + 1;
-        let mut next = here.wrapping_add(ways.near[direction as usize]);
-        let mut met = cell_at(cells, next);
-        if met >= JOINED && met == SEAM {
-            next = next.wrapping_add(ways.around[direction as usize]);
-            met = cell_at(cells, next);
-        }
-        cells[here as usize] = next.wrapping_mul(4) | direction;
-        if met >= JOINED {
-            break;
-        }
-        here = next;
+        here = place;
+        steps = words.next_steps();
     }
-    steps.word = word;
-    steps.made = made;
+    steps
 }
 
-// Follows the notes of a place to the tree or the sink, and returns the number of places on the way and the depth there.
-fn follow(cells: &[u32], path: &mut [u32], from: u32) -> (usize, u32) {
+// Follows the notes of a place to the tree or the sink, and returns the number of edges on the way and the cell there.
+fn follow(cells: &[u32], from: u32) -> (u32, u32) {
     let mut here = from;
-    for edges in 0..path.len() + 1 {
+    for edges in 0..cells.len().min(JOINED as usize) as u32 {
         let cell = cell_at(cells, here);
         if cell >= JOINED {
-            return (edges, cell % JOINED / 4);
-        }
-        if edges < path.len() {
-            path[edges] = here;
+            return (edges, cell);
         }
         here = cell / 4;
     }
-    (0, 0)
+    (0, JOINED)
 }
 
-// Adds the places of a path, from the last on, to the tree, which has this depth where they lead.
-fn join(cells: &mut [u32], path: &[u32], depth: u32) {
-    let mut edges = depth;
-    for place in path.iter().rev() {
-        edges = edges.wrapping_add(1);
-        let direction = cell_at(cells, *place) % 4;
-        set_cell(cells, *place, JOINED | edges.wrapping_mul(4) | direction);
+// Adds the places on the way from one to the tree, over so many edges to a cell of the tree.
+fn join(cells: &mut [u32], from: u32, edges: u32, met: u32) {
+    let mut here = from;
+    for after in 0..edges {
+        let cell = cell_at(cells, here);
+        set_cell(cells, here, joined(met, edges - after, cell % 4));
+        here = cell / 4;
     }
 }
 
@@ -139,25 +193,39 @@ fn frame_of(alloc: Global, shape: Shape) -> Result<Vec<u32>, AllocError> {
     Ok(cells)
 }
 
-// Walks from each place that is not in the tree. There is room on the path for all sites.
-fn walk_all(cells: &mut [u32], path: &mut [u32], shape: Shape, seed: u64, stream: u64) {
+// Walks from each place that is not in the tree. A walk that ends after one step joins the tree at once.
+fn walk_all(cells: &mut [u32], shape: Shape, seed: u64, stream: u64) {
     let width = shape.width() as u32;
     let ways = Ways {
         near: [0u32.wrapping_sub(width + 1), u32::MAX, 1, width + 1],
         around: [0, width, 0u32.wrapping_sub(width), 0],
     };
-    let mut steps = Steps {
-        words: words_of(seed, stream),
-        word: 0,
-        made: 0,
+    let mut words = Words {
+        stream: words_of(seed, stream),
+        pairs: 0,
     };
+    let mut steps = words.next_steps();
     for from in width + 1..(width + 1) * (shape.height() as u32 + 1) {
-        if cell_at(cells, from) < JOINED {
-            wander(cells, &ways, &mut steps, from);
-            let (edges, depth) = follow(cells, path, from);
-            if edges <= path.len() {
-                join(cells, &path[..edges], depth);
-            }
+        if steps.left == 0 {
+            steps = words.next_steps();
+        }
+        let direction = (steps.bits % 4) as u32;
+        let met = met_by(cells, &ways, from, direction);
+        let cell = cell_at(cells, from);
+        let is_free = cell < JOINED;
+        if is_free & (met < JOINED) {
+            steps = wander(cells, &ways, &mut words, steps, from);
+            let (edges, met) = follow(cells, from);
+            join(cells, from, edges, met);
+        } else {
+            let cell = if is_free {
+                joined(met, 1, direction)
+            } else {
+                cell
+            };
+            set_cell(cells, from, cell);
+            steps.bits >>= 2 * u32::from(is_free);
+            steps.left = steps.left.wrapping_sub(u32::from(is_free));
         }
     }
 }
@@ -170,7 +238,7 @@ fn read_row(cells: &[u32], directions: &mut [u8], depths: &mut [u32]) {
     }
 }
 
-/// Writes directions and depths, by site: those of a random tree of a shape. Until then the depths hold the path of a walk.
+/// Writes directions and depths, by site: those of a random tree of a shape.
 pub(crate) fn draw(
     alloc: Global,
     shape: Shape,
@@ -181,7 +249,7 @@ pub(crate) fn draw(
 ) -> Result<(), AllocError> {
     let width = shape.width();
     let mut cells = frame_of(alloc, shape)?;
-    walk_all(&mut cells, depths, shape, seed, stream);
+    walk_all(&mut cells, shape, seed, stream);
     let rows = cells.chunks_exact(width + 1).skip(1);
     let sites = directions
         .chunks_exact_mut(width)
