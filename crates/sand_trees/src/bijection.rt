@@ -7,56 +7,56 @@ ghost use Rattle.sand_group.specs.BurningTimes.{AreBurningTimes};
 ghost use Rattle.sand_trees.specs.Trees.{IsTree, IsPileOfTree, direction_of, depth_of};
 ghost use Rattle.sand_trees.specs.Walks.{AreLayers, IsHeightAt};
 
-use crate::around::{count_below, depths_around, height_among, pick};
+use crate::around::{count_below, depths_around, depths_at_edge, height_among, pick};
 use crate::tree::Tree;
 use sand_group::{Recurrent, burning_times};
-use sand_model::{Lattice, Pile};
+use sand_model::{Lattice, Pile, Shape};
 use std::alloc::{AllocError, Global};
 
 // Writes the heights of the sites from one on to another, by these directions and depths.
 fn write_some(
-    lattice: &Lattice,
+    shape: Shape,
     directions: &[u8],
     depths: &[u32],
-    heights: &mut [u64],
+    heights: &mut [u32],
     from: usize,
     to: usize,
 )
-    requires directions { length directions.now ≡ sites lattice.now }
-    requires depths { length depths.now ≡ sites lattice.now }
-    requires heights { length heights.old ≡ sites lattice.now }
-    requires inside { to ≤ sites lattice.now }
+    requires directions { length directions.now ≡ sites shape }
+    requires depths { length depths.now ≡ sites shape }
+    requires heights { length heights.old ≡ sites shape }
+    requires inside { to ≤ sites shape }
     requires before { (k : ℕ) → k < from
-        → IsHeightAt lattice.now (slice_index directions.now) (slice_index depths.now) k (slice_index heights.old k) }
+        → IsHeightAt shape (slice_index directions.now) (slice_index depths.now) k (slice_index heights.old k) }
     ensures { (k : ℕ) → k < to
-        → IsHeightAt lattice.now (slice_index directions.now) (slice_index depths.now) k (slice_index heights.new k) }
+        → IsHeightAt shape (slice_index directions.now) (slice_index depths.now) k (slice_index heights.new k) }
 {
     for site in from..to {
-        let around = depths_around(lattice, depths, site);
+        let around = depths_at_edge(shape, depths, site);
         heights[site] = height_among(&around, depths[site], directions[site]);
     }
 }
 
 // The same of inner sites.
 fn write_inner(
-    lattice: &Lattice,
+    shape: Shape,
     directions: &[u8],
     depths: &[u32],
-    heights: &mut [u64],
+    heights: &mut [u32],
     from: usize,
     to: usize,
 )
-    requires directions { length directions.now ≡ sites lattice.now }
-    requires depths { length depths.now ≡ sites lattice.now }
-    requires heights { length heights.old ≡ sites lattice.now }
-    requires inside { to ≤ sites lattice.now }
-    requires inner { (k : ℕ) → from ≤ k → k < to → IsTrue (is_inner lattice.now k) }
+    requires directions { length directions.now ≡ sites shape }
+    requires depths { length depths.now ≡ sites shape }
+    requires heights { length heights.old ≡ sites shape }
+    requires inside { to ≤ sites shape }
+    requires inner { (k : ℕ) → from ≤ k → k < to → IsTrue (is_inner shape k) }
     requires before { (k : ℕ) → k < from
-        → IsHeightAt lattice.now (slice_index directions.now) (slice_index depths.now) k (slice_index heights.old k) }
+        → IsHeightAt shape (slice_index directions.now) (slice_index depths.now) k (slice_index heights.old k) }
     ensures { (k : ℕ) → k < to
-        → IsHeightAt lattice.now (slice_index directions.now) (slice_index depths.now) k (slice_index heights.new k) }
+        → IsHeightAt shape (slice_index directions.now) (slice_index depths.now) k (slice_index heights.new k) }
 {
-    let width = lattice.shape().width();
+    let width = shape.width();
     for site in from..to {
         let around = [
             depths[site - width],
@@ -69,23 +69,22 @@ fn write_inner(
 }
 
 // Writes the heights of all sites. Most of them are inner, one after another in a row: then there is no branch at all.
-fn write_heights(lattice: &Lattice, directions: &[u8], depths: &[u32], heights: &mut [u64])
-    requires directions { length directions.now ≡ sites lattice.now }
-    requires depths { length depths.now ≡ sites lattice.now }
-    requires heights { length heights.old ≡ sites lattice.now }
-    ensures { (k : ℕ) → k < sites lattice.now
-        → IsHeightAt lattice.now (slice_index directions.now) (slice_index depths.now) k (slice_index heights.new k) }
+fn write_heights(shape: Shape, directions: &[u8], depths: &[u32], heights: &mut [u32])
+    requires directions { length directions.now ≡ sites shape }
+    requires depths { length depths.now ≡ sites shape }
+    requires heights { length heights.old ≡ sites shape }
+    ensures { (k : ℕ) → k < sites shape
+        → IsHeightAt shape (slice_index directions.now) (slice_index depths.now) k (slice_index heights.new k) }
 {
-    let shape = lattice.shape();
     let width = shape.width();
     let mut done = 0;
     for row in 1..shape.height() - 1 {
         let first = row * width;
-        write_some(lattice, directions, depths, heights, done, first + 1);
+        write_some(shape, directions, depths, heights, done, first + 1);
         done = first + width - 1;
-        write_inner(lattice, directions, depths, heights, first + 1, done);
+        write_inner(shape, directions, depths, heights, first + 1, done);
     }
-    write_some(lattice, directions, depths, heights, done, shape.sites());
+    write_some(shape, directions, depths, heights, done, shape.sites());
 }
 
 // The directions that give a pile its heights, for its burning times.
@@ -119,23 +118,34 @@ fn directions_of(
     Ok(directions)
 }
 
+// The same numbers in 64 bits. Heights are first written in 32, as depths are, so that more of them fit in a vector.
+fn widened(alloc: Global, numbers: &[u32]) -> Result<Vec<u64>, AllocError>
+    ensures { IfOk result (λ v. v.items ≡ numbers.now) }
+{
+    let mut wide = Vec::with_capacity(alloc, numbers.len())?;
+    for number in numbers {
+        wide.push_reserved(u64::from(*number));
+    }
+    Ok(wide)
+}
+
 /// The pile of these directions and depths, or None if they are no tree. Fails only if an allocation fails.
 pub(crate) fn pile_on(
     alloc: Global,
-    lattice: &Lattice,
+    shape: Shape,
     directions: &[u8],
     depths: &[u32],
 ) -> Result<Option<Recurrent>, AllocError>
-    requires directions { length directions.now ≡ sites lattice.now }
-    requires depths { length depths.now ≡ sites lattice.now }
-    ensures grid { IfOk result (λ o. IfSome o (λ c. c.grid ≡ lattice.now)) }
+    requires directions { length directions.now ≡ sites shape }
+    requires depths { length depths.now ≡ sites shape }
+    ensures grid { IfOk result (λ o. IfSome o (λ c. c.grid ≡ shape)) }
     ensures pile { IfOk result (λ o. MatchOption o
-        (¬ IsTree lattice.now (slice_index directions.now) (slice_index depths.now))
-        (λ c. IsPileOfTree lattice.now (slice_index directions.now) (slice_index depths.now) (height_of c))) }
+        (¬ IsTree shape (slice_index directions.now) (slice_index depths.now))
+        (λ c. IsPileOfTree shape (slice_index directions.now) (slice_index depths.now) (height_of c))) }
 {
-    let mut heights = vec![in alloc; 0u64; lattice.shape().sites()]?;
-    write_heights(lattice, directions, depths, &mut heights);
-    let pile = Pile::from_vec(lattice.shape(), heights);
+    let mut heights = vec![in alloc; 0u32; shape.sites()]?;
+    write_heights(shape, directions, depths, &mut heights);
+    let pile = Pile::from_vec(shape, widened(alloc, &heights)?);
     if !pile.is_stable() {
         return Ok(None);
     }
@@ -148,8 +158,7 @@ pub fn pile_of_tree(alloc: Global, tree: &Tree) -> Result<Recurrent, AllocError>
     ensures pile { IfOk result
         (λ c. IsPileOfTree tree.now.grid (direction_of tree.now) (depth_of tree.now) (height_of c)) }
 {
-    let lattice = Lattice::new(alloc, tree.shape())?;
-    match pile_on(alloc, &lattice, tree.directions(), tree.depths())? {
+    match pile_on(alloc, tree.shape(), tree.directions(), tree.depths())? {
         Some(recurrent) => Ok(recurrent),
         None => unreachable!(),
     }

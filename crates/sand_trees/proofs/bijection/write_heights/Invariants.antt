@@ -4,6 +4,6 @@ use Rattle.sand_trees.proofs.bijection.write_heights.Given as goal
 
 abbrev pub invariant-loop-row : goal.invariant-loop-row
 invariant-loop-row l = record {
-  len : length l.heights ≡ sites l.lattice;
-  each : (k : ℕ) → k < l.done → IsHeightAt l.lattice (slice_index l.directions) (slice_index l.depths) k (slice_index l.heights k);
+  len : length l.heights ≡ sites l.shape;
+  each : (k : ℕ) → k < l.done → IsHeightAt l.shape (slice_index l.directions) (slice_index l.depths) k (slice_index l.heights k);
 }

@@ -5,7 +5,7 @@ use Rattle.sand_trees.proofs.bijection.write_some.Goals as goal
 
 pub loop-site-preserved : goal.loop-site-preserved
 loop-site-preserved c =
-    let g = c.args.lattice.now in
+    let g = c.args.shape in
     let way = slice_index c.args.directions.now in
     let d = slice_index c.args.depths.now in
     let site = c.loop-site.site in
@@ -13,5 +13,5 @@ loop-site-preserved c =
       len = length-set _ _ _ ∙ c.loop-site.invariant.len;
       each = one_more_set (IsHeightAt g way d) c.loop-site.heights site c.height_among.result refl
           (omega (arith, c.loop-site.invariant.len, c.requires.inside, c.loop-site-test.true)) c.loop-site.invariant.each
-          (at_site g way d site _ _ _ _ c.depths_around-around.ensures refl refl c.height_among.ensures);
+          (at_site g way d site _ _ _ _ c.depths_at_edge-around.ensures refl refl c.height_among.ensures);
     }
