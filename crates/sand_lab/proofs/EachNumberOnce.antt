@@ -1,6 +1,6 @@
 -- If the numbers of receipts are all different and below their count, each number below it occurs exactly once. So the
 -- sites of a journal are the history.
-use Rattle.sand_lab.proofs.Common.{ℕ, ◌≡◌, ◌<◌, List, map, length, get_or, Some, sym, ap, ◌∙◌, arith, ◌/◌, length-map, All-map, get_or_from_slice_get, slice_get-get_or, slice_get_within, slice_get-map, slice_get, option_map, sum_below, occurrences, one_at, Receipt, numbered, receipt, EachOnce, AllBelow, Tells, Entry, entry, sites_in, IsJournal}
+use Rattle.sand_lab.proofs.Common.{ℕ, ◌≡◌, ◌<◌, List, map, length, get_or, Some, sym, ap, ◌∙◌, arith, length-map, All-map, get_or_from_slice_get, slice_get-get_or, slice_get_within, slice_get-map, slice_get, option_map, sum_below, occurrences, one_at, Receipt, numbered, receipt, EachOnce, AllBelow, Tells, Entry, sites_in, IsJournal}
 use Rattle.sand_model.proofs.Bounds.{fewer_than_all}
 use Rattle.sand_model.proofs.Occurrences.{sum_below-occurrences}
 use Rattle.sand_shared.proofs.ReceiptsTellHistory.{apart, found, history_is}
@@ -26,8 +26,11 @@ each_number rs once below n inside =
     grind (arith, all, long, here, same, less)
 
 -- some receipt has the number n
-abbrev pub HasNumber : List Receipt → ℕ → Type 0
-HasNumber rs n = (i : ℕ) × (r : Receipt) × (slice_get rs i ≡ Some r) × (r.number ≡ n)
+pub record HasNumber (rs : List Receipt) (n : ℕ) : Type 0 where
+  pub index : ℕ
+  pub one : Receipt
+  pub there : slice_get rs index ≡ Some one
+  pub number : one.number ≡ n
 
 -- so each number below their count has a receipt
 pub receipt_of : (rs : List Receipt) → EachOnce rs → AllBelow (length rs) rs → (n : ℕ) → n < length rs → HasNumber rs n
@@ -35,7 +38,7 @@ receipt_of rs once below n inside =
     let one = each_number rs once below n inside in
     let d = receipt 0 0 in
     let f = found rs n d (omega arith) in
-    (f.0, get_or rs f.0 d, slice_get-get_or rs f.0 d f.1, f.2)
+    record { index = f.0; one = get_or rs f.0 d; there = slice_get-get_or rs f.0 d f.1; number = f.2 }
 
 -- receipts with the same number have the same index
 pub one_place : (rs : List Receipt) (i j : ℕ) (r q : Receipt) → EachOnce rs
@@ -47,15 +50,6 @@ one_place rs i j r q once here there same =
     let second = ap number (get_or_from_slice_get rs j q r there) in
     let other = apart rs i j r once (slice_get_within rs i r here) (slice_get_within rs j q there) in
     grind (arith, first, second, same, other)
-
--- the entry at each number is that of its receipt
-pub entry_of : (drops : ℕ) (rs : List Receipt) (js : List Entry) → EachOnce rs
-    → AllBelow (length rs) rs → IsJournal drops rs js → (n : ℕ) → n < length rs
-    → (i : ℕ) × (r : Receipt) × (slice_get rs i ≡ Some r)
-    × (r.number ≡ n) × (slice_get js n ≡ Some (entry (i / drops) r.site))
-entry_of drops rs js once below journal n inside =
-    let found = receipt_of rs once below n inside in
-    (found.0, found.1, found.2, found.3, ap (slice_get js) (sym found.3) ∙ journal.noted found.0 found.1 found.2)
 
 -- the sites of a journal agree with its receipts
 pub journal_tells : (drops : ℕ) (rs : List Receipt) (js : List Entry) → IsJournal drops rs js → Tells rs (sites_in js)

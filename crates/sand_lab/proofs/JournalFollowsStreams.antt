@@ -2,7 +2,7 @@
 -- journal, are those of its receipts.
 use Rattle.sand_lab.proofs.Common.{ℕ, zero, suc, ◌≡◌, ◌≢◌, ◌+◌, ◌<◌, List, [], ◌∷◌, Some, refl, ap, ap₂, ⊎_elim, arith, ◌*◌, ◌/◌, ◌%◌, ◌≤◌, All, take, length, get_or, sym, ◌∙◌, subst, length-append, none-some, same_Some, get_or_from_slice_get, slice_get_within, slice_get-get_or, slice_get, Receipt, Entry, entry, receipt_sites, sites_by, Ascends, flattened, AreParts, IsJournal, FollowsStreams, take_all, div-mul-add, div-add-mod', mul-le-mul_right, EachOnce, AllBelow, stream_of, stream_sites}
 use Rattle.std.proofs.lemmas.Bool.{cases_eq, eq-eqb, ne_eqb}
-use Rattle.sand_lab.proofs.EachNumberOnce.{HasNumber, entry_of}
+use Rattle.sand_lab.proofs.EachNumberOnce.{HasNumber, receipt_of}
 use Rattle.std.proofs.lemmas.List.Concat.{get_or-flat_map}
 
 -- Below, js is the tail of a journal, whose entries are numbered from m on.
@@ -27,11 +27,12 @@ below_later r rs up i q there =
 -- if the first entry is the dropper's, it has the number of the first receipt
 first_number : (k m : ℕ) (e : Entry) (js : List Entry) (r : Receipt) (rs : List Receipt)
     → Matches k m (e ∷ js) (r ∷ rs) → e.dropper ≡ k → r.number ≡ m
-first_number k m e js r rs given is = at_first (given.receipts zero e refl is)
+first_number k m e js r rs given is =
+    let has = given.receipts zero e refl is in at_first has.index has.one has.there has.number
   where
-    at_first : HasNumber (r ∷ rs) (m + zero) → r.number ≡ m
-    at_first (zero, q, there, number) = let same = ap (λ (x : Receipt). x.number) (same_Some r q there) in omega arith
-    at_first (suc i, q, there, number) =
+    at_first : (i : ℕ) (q : Receipt) → slice_get (r ∷ rs) i ≡ Some q → q.number ≡ m + zero → r.number ≡ m
+    at_first zero q there number = let same = ap (λ (x : Receipt). x.number) (same_Some r q there) in omega arith
+    at_first (suc i) q there number =
         let less = below_later r rs given.ascends i q there in
         let from = (given.entries zero r refl).1 in absurd (omega arith)
 
@@ -58,14 +59,16 @@ past_first k m e js r rs given first = record {
   entries = λ i q there.
       let less = below_later r rs given.ascends i q there in
       in_rest k m e js q (omega arith) (given.entries (suc i) q there);
-  receipts = λ n x there is. not_first n (given.receipts (suc n) x there is);
+  receipts = λ n x there is.
+      let has = given.receipts (suc n) x there is in not_first n has.index has.one has.there has.number;
 }
   where
-    not_first : (n : ℕ) → HasNumber (r ∷ rs) (m + suc n) → HasNumber rs (m + 1 + n)
-    not_first n (zero, q, there, number) =
+    not_first : (n i : ℕ) (q : Receipt) → slice_get (r ∷ rs) i ≡ Some q → q.number ≡ m + suc n
+        → HasNumber rs (m + 1 + n)
+    not_first n zero q there number =
         let same = ap (λ (x : Receipt). x.number) (same_Some r q there) in
         absurd (omega arith)
-    not_first n (suc i, q, there, number) = (i, q, there, omega arith)
+    not_first n (suc i) q there number = record { index = i; one = q; there = there; number = omega arith }
 
 -- after another dropper's entry nothing has changed
 past_other : (k m : ℕ) (e : Entry) (js : List Entry) (rs : List Receipt) → Matches k m (e ∷ js) rs → e.dropper ≢ k
@@ -74,8 +77,8 @@ past_other k m e js rs given other = record {
   ascends = given.ascends;
   entries = λ i r there. let has = given.entries i r there in in_rest k m e js r (later r has) has;
   receipts = λ n x there is.
-      let found = given.receipts (suc n) x there is in
-      (found.0, found.1, found.2, omega (arith, found.3));
+      let has = given.receipts (suc n) x there is in
+      record { index = has.index; one = has.one; there = has.there; number = omega (arith, has.number) };
 }
   where
     later : (r : Receipt) → HasEntry k m (e ∷ js) r → m < r.number
@@ -89,7 +92,7 @@ Picked k js = (m : ℕ) (rs : List Receipt) → Matches k m js rs → sites_by k
 picked_first : (k m : ℕ) (e : Entry) (js : List Entry) (rs : List Receipt)
     → Picked k js → Matches k m (e ∷ js) rs → e.dropper ≡ k
     → e.site ∷ sites_by k js ≡ receipt_sites rs
-picked_first k m e js [] later given is = absurd (none-some _ (given.receipts zero e refl is).2)
+picked_first k m e js [] later given is = absurd (none-some _ (given.receipts zero e refl is).there)
 picked_first k m e js (r ∷ rs) later given is =
     let first = first_number k m e js r rs given is in
     ap₂ (λ (x : ℕ) (xs : List ℕ). x ∷ xs) (first_site k m e js r rs given first)
@@ -189,17 +192,24 @@ module _ {drops : ℕ} {parts : List (List Receipt)} {rs : List Receipt} (are : 
           let all = length-parts in
           let within = slice_get_within js n e at_journal in
           let some = some_each n (length parts) drops (omega arith) in
-          let found = entry_of drops rs js once below journal n (omega arith) in
-          let p = found.0 in
-          let r = found.1 in
+          let has = receipt_of rs once below n (omega arith) in
+          let p = has.index in
+          let r = has.one in
           let i = p % drops in
+          let noted : slice_get js n ≡ Some (entry (p / drops) r.site) =
+          ap (slice_get js) (sym has.number) ∙ journal.noted p r has.there in
           let inside : i < drops = omega arith in
-          let row : p / drops ≡ k = ap (λ (x : Entry). x.dropper) (same_Some _ _ (sym found.4 ∙ at_journal)) ∙ is in
+          let row : p / drops ≡ k = ap (λ (x : Entry). x.dropper) (same_Some _ _ (sym noted ∙ at_journal)) ∙ is in
           let place : k * drops + i ≡ p = ap (λ q. q * drops + i) (sym row) ∙ div-add-mod' p drops in
           let same : get_or part i r ≡ r =
-          sym (same_receipt i r inside) ∙ (ap (λ q. get_or rs q r) place ∙ get_or_from_slice_get rs p r r found.2) in
+          sym (same_receipt i r inside) ∙ (ap (λ q. get_or rs q r) place ∙ get_or_from_slice_get rs p r r has.there) in
           let long = length-part in
-          let number = found.3 in (i, r, slice_get-get_or part i r (omega arith) ∙ ap Some same, omega arith)
+          record {
+            index = i;
+            one = r;
+            there = slice_get-get_or part i r (omega arith) ∙ ap Some same;
+            number = omega (arith, has.number);
+          }
 
       -- so the k-th dropper's sites are those of the part
       pub part_sites : sites_by k js ≡ receipt_sites part

@@ -42,6 +42,20 @@ pub record IsDropping (s : SharedView) (turns read : ℕ) (d e : Dropper) : Type
   pub within : AllBelow s.terms.quota e.pass.receipts
   pub below : AllBelow e.pass.seen e.pass.receipts
 
+-- a dropper that has begun
+pub record HasBegun (s : SharedView) (e : Dropper) : Type 0 where
+  pub turns : ℕ
+  pub read : ℕ
+  pub first : Dropper
+  pub dropping : IsDropping s turns read first e
+
+-- and has a site to read
+pub record HasSiteToRead (s : SharedView) (turns : ℕ) (e : Dropper) : Type 0 where
+  pub read : ℕ
+  pub first : Dropper
+  pub more : read < turns
+  pub dropping : IsDropping s turns read first e
+
 -- in `turns` turns d became e: it has dropped a grain in each, at the sites of its stream, in order
 pub record TookDropTurns (s : SharedView) (turns : ℕ) (d e : Dropper) : Type 0 where
   pub who : e.who ≡ d.who

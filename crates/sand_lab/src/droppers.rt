@@ -7,7 +7,7 @@
 
 ghost use Rattle.std.specs.Prelude.{◌≡◌, ℕ, ◌+◌, ◌<◌, [], length};
 ghost use Rattle.std.specs.Int.{div_ceil};
-ghost use Rattle.sand_lab.specs.Jobs.{CanDrop, TookDropTurns, IsDropping};
+ghost use Rattle.sand_lab.specs.Jobs.{CanDrop, HasBegun, HasSiteToRead, IsDropping, TookDropTurns};
 
 use crate::turns::TakeTurns;
 use sand_plan::{Gate, Role};
@@ -38,8 +38,7 @@ pub(crate) fn batch_size(drops: u32) -> u32
 impl Dropper {
     // Drops on the next site of the stream; the batch is empty.
     fn drop_next(&mut self, pile: &SharedPile, _turns: u32)
-        requires dropping { (read : ℕ) × (first : Dropper) × (read < _turns)
-            × IsDropping pile.now _turns read first self.old }
+        requires dropping { HasSiteToRead pile.now _turns self.old }
         requires empty { self.old.batch.items ≡ [] }
         ensures dropped { (read : ℕ) (first : Dropper) → read < _turns
             → IsDropping pile.now _turns read first self.old → IsDropping pile.now _turns (read + 1) first self.new }
@@ -53,7 +52,7 @@ impl Dropper {
 
     // Drops on all sites of the batch.
     fn drop_batch(&mut self, pile: &SharedPile)
-        requires { (turns : ℕ) × (read : ℕ) × (first : Dropper) × IsDropping pile.now turns read first self.old }
+        requires { HasBegun pile.now self.old }
         ensures dropped { (turns : ℕ) (read : ℕ) (first : Dropper)
             → IsDropping pile.now turns read first self.old → IsDropping pile.now turns read first self.new }
         ensures all { self.new.batch.items ≡ [] }
@@ -67,8 +66,7 @@ impl Dropper {
 
     // Reads the next site of the stream into the batch, and drops on its sites when it is full.
     fn read_next(&mut self, pile: &SharedPile, turns: u32)
-        requires dropping { (read : ℕ) × (first : Dropper) × (read < turns)
-            × IsDropping pile.now turns read first self.old }
+        requires dropping { HasSiteToRead pile.now turns self.old }
         requires bound { length self.old.batch.items < div_ceil turns 16 }
         ensures read { (read : ℕ) (first : Dropper) → read < turns
             → IsDropping pile.now turns read first self.old → IsDropping pile.now turns (read + 1) first self.new }

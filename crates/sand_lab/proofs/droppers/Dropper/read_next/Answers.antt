@@ -4,14 +4,15 @@ use Rattle.sand_lab.proofs.droppers.Dropper.read_next.Goals as goal
 
 pub drop_batch-requires : goal.drop_batch-requires
 drop_batch-requires c =
-    let given = c.requires.dropping in (
-      c.args.turns,
-      given.0 + 1,
-      given.1,
-      reads_one c.args.pile.now c.args.turns given.0 given.1 c.args.self.now _ c.next_site.result
-          given.3 given.2 refl refl refl c.next_site.ensures.read c.push_reserved.ensures.items
-          c.push_reserved.ensures.capacity c.next_site.ensures.site c.next_site.ensures.inside,
-    )
+    let given = c.requires.dropping in
+    record {
+      turns = c.args.turns;
+      read = given.read + 1;
+      first = given.first;
+      dropping = reads_one c.args.pile.now c.args.turns given.read given.first c.args.self.now _ c.next_site.result
+          given.dropping given.more refl refl refl c.next_site.ensures.read c.push_reserved.ensures.items
+          c.push_reserved.ensures.capacity c.next_site.ensures.site c.next_site.ensures.inside;
+    }
 
 pub returns-then-len-most-clause-read : goal.returns-then-len-most-clause-read
 returns-then-len-most-clause-read c read first more h =

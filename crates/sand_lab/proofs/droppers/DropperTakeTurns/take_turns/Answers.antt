@@ -14,12 +14,20 @@ loop-turn-init g c = record {
 }
 
 pub drop_next-requires-clause-dropping : goal.drop_next-requires-clause-dropping
-drop_next-requires-clause-dropping g c =
-    (c.loop-turn.turn, c.args.self.now, c.loop-turn-test.true, c.loop-turn.invariant.dropping)
+drop_next-requires-clause-dropping g c = record {
+  read = c.loop-turn.turn;
+  first = c.args.self.now;
+  more = c.loop-turn-test.true;
+  dropping = c.loop-turn.invariant.dropping;
+}
 
 pub read_next-requires-clause-dropping : goal.read_next-requires-clause-dropping
-read_next-requires-clause-dropping g c =
-    (c.loop-turn.turn, c.args.self.now, c.loop-turn-test.true, c.loop-turn.invariant.dropping)
+read_next-requires-clause-dropping g c = record {
+  read = c.loop-turn.turn;
+  first = c.args.self.now;
+  more = c.loop-turn-test.true;
+  dropping = c.loop-turn.invariant.dropping;
+}
 
 pub read_next-requires-clause-bound : goal.read_next-requires-clause-bound
 read_next-requires-clause-bound g c = c.loop-turn.invariant.bound (omega (arith, c.loop-turn-test.true))
@@ -51,7 +59,12 @@ loop-turn-preserved g c =
     ]
 
 pub drop_batch-requires : goal.drop_batch-requires
-drop_batch-requires g c = (c.args.turns, c.loop-turn.turn, c.args.self.now, c.loop-turn.invariant.dropping)
+drop_batch-requires g c = record {
+  turns = c.args.turns;
+  read = c.loop-turn.turn;
+  first = c.args.self.now;
+  dropping = c.loop-turn.invariant.dropping;
+}
 
 pub returns : goal.returns
 returns g c =
