@@ -9,23 +9,7 @@ fn is_fired(alloc: Global, heights: &[i64], recurrent: &[u64], firing: &[i64]) -
     let shape = Shape::new(heights.len(), 1).ok()?;
     let fired = recurrent_by_firing(alloc, shape, heights).ok()?;
     let is_pile = fired.recurrent.pile().heights() == recurrent;
-    let is_fired = is_pile && fired.firing.as_slice() == firing;
-    drop(fired);
-    Some(is_fired)
-}
-
-// A toppling of each of two sites takes 3 grains from each.
-#[test]
-fn fires_to_the_recurrent_pile(rt: HostRuntime) {
-    for (heights, recurrent, firing) in [
-        ([3, 3], [3, 3], [0, 0]),
-        ([0, 0], [3, 3], [-1, -1]),
-        ([4, 0], [0, 1], [1, 0]),
-        ([-1, 0], [2, 3], [-1, -1]),
-    ] {
-        let is_fired = is_fired(rt.alloc(), &heights, &recurrent, &firing);
-        assert!(rt; is_fired == Some(true), "{heights:?}");
-    }
+    Some(is_pile && fired.firing.as_slice() == firing)
 }
 
 // Whether heights in one row have these superstable heights in their class.
@@ -35,16 +19,19 @@ fn is_superstable(alloc: Global, heights: &[i64], expected: &[u64]) -> Option<bo
     Some(pile.heights() == expected)
 }
 
-// They are 3 less the recurrent pile of 3 less the heights: of 0 0 and 3 3 that is 3 3, and of -1 3 it is 3 2.
+// A toppling of each of two sites takes 3 grains from each. The superstable heights are 3 less the recurrent pile of 3
+// less the heights: of 0 0 and 3 3 that is 3 3, and of -1 3 it is 3 2.
 #[test]
-fn finds_the_superstable_heights(rt: HostRuntime) {
-    for (heights, expected) in [
-        ([3, 3], [0, 0]),
-        ([0, 0], [0, 0]),
-        ([4, 0], [0, 1]),
-        ([-1, 0], [2, 3]),
+fn recurrent_piles_and_superstable_heights(rt: HostRuntime) {
+    for (heights, recurrent, firing, superstable) in [
+        ([3, 3], [3, 3], [0, 0], [0, 0]),
+        ([0, 0], [3, 3], [-1, -1], [0, 0]),
+        ([4, 0], [0, 1], [1, 0], [0, 1]),
+        ([-1, 0], [2, 3], [-1, -1], [2, 3]),
     ] {
-        let is_superstable = is_superstable(rt.alloc(), &heights, &expected);
+        let is_fired = is_fired(rt.alloc(), &heights, &recurrent, &firing);
+        assert!(rt; is_fired == Some(true), "{heights:?}");
+        let is_superstable = is_superstable(rt.alloc(), &heights, &superstable);
         assert!(rt; is_superstable == Some(true), "{heights:?}");
     }
 }

@@ -1,62 +1,48 @@
 //! What no contract says: that a claim is made, by a guess, on tiles or by sweeps, and is right for small piles; and
-//! which piles count as high or flat.
+//! which piles count as high or flat. And a claim made by hand that is accepted.
 
-use crate::piles::{pile_on, row};
-use sand_guess::{guessed, guessed_identity, is_flat, is_high, swept, toppled};
+use crate::piles::{pile_on, ring, row};
+use sand_certify::certified;
+use sand_guess::{Claim, guessed, guessed_identity, is_flat, is_high, swept, toppled};
 use sand_model::{Edge, Pile, Shape};
-use std::alloc::Global;
+use std::alloc::{AllocError, Global};
 use std::test::Fail;
 
-#[derive(Clone, Copy, Debug)]
-enum Way {
-    Guess,
-    Tiles,
-    Sweeps,
-}
-
-// Whether a claim for a pile in one row has these counts.
-fn is_claimed(
-    alloc: Global,
-    way: Way,
-    edge: Edge,
-    heights: &[u64],
-    counts: &[u64],
-) -> Option<bool> {
-    let pile = pile_on(alloc, heights.len(), 1, edge, heights)?;
-    let claim = match way {
-        Way::Guess => guessed(alloc, &pile),
-        Way::Tiles => toppled(alloc, &pile),
-        Way::Sweeps => swept(alloc, &pile),
-    };
-    Some(claim.ok()??.counts.as_slice() == counts)
+// Whether a claim has these counts.
+fn is_claimed(claim: Result<Option<Claim>, AllocError>, counts: &[u64]) -> bool {
+    matches!(claim, Ok(Some(claim)) if claim.counts.as_slice() == counts)
 }
 
 #[test]
-fn claims_by_hand(rt: HostRuntime) {
-    for (way, edge, heights, counts) in [
-        (
-            Way::Guess,
-            Edge::Open,
-            [0, 4, 0].as_slice(),
-            [0, 1, 0].as_slice(),
-        ),
-        (Way::Guess, Edge::Cylinder, &[4, 4, 4], &[1, 1, 1]),
-        (
-            Way::Guess,
-            Edge::Open,
-            &[1_099_511_627_775],
-            &[274_877_906_943],
-        ),
-        (Way::Tiles, Edge::Open, &[0, 4, 0], &[0, 1, 0]),
-        (Way::Tiles, Edge::Cylinder, &[4, 4, 4], &[1, 1, 1]),
-        (Way::Tiles, Edge::Open, &[100], &[25]),
-        (Way::Sweeps, Edge::Open, &[0, 4, 0], &[0, 1, 0]),
-        (Way::Sweeps, Edge::Cylinder, &[4, 4, 4], &[1, 1, 1]),
-        (Way::Sweeps, Edge::Open, &[100], &[25]),
+fn claims_by_hand(rt: HostRuntime) -> Result<(), Fail> {
+    for (edge, heights, counts) in [
+        (Edge::Open, [0, 4, 0].as_slice(), [0, 1, 0].as_slice()),
+        (Edge::Cylinder, &[4, 4, 4], &[1, 1, 1]),
+        (Edge::Open, &[100], &[25]),
     ] {
-        let is_claimed = is_claimed(rt.alloc(), way, edge, heights, counts);
-        assert!(rt; is_claimed == Some(true), "{counts:?}: {way:?}");
+        let pile = pile_on(rt.alloc(), heights.len(), 1, edge, heights).ok_or("no pile")?;
+        assert!(rt;
+            is_claimed(guessed(rt.alloc(), &pile), counts),
+            "{heights:?}"
+        );
+        assert!(rt;
+            is_claimed(toppled(rt.alloc(), &pile), counts),
+            "{heights:?}"
+        );
+        assert!(rt; is_claimed(swept(rt.alloc(), &pile), counts), "{heights:?}");
     }
+    let most = row(rt.alloc(), &[1_099_511_627_775]).ok_or("no pile")?;
+    assert!(rt; is_claimed(guessed(rt.alloc(), &most), &[274_877_906_943]));
+    Ok(())
+}
+
+// All three sites topple once and get a grain from each neighbour; each may burn in one turn.
+#[test]
+fn accepts_the_odometer(rt: HostRuntime) -> Result<(), Fail> {
+    let pile = ring(rt.alloc(), &[4, 4, 4]).ok_or("no pile")?;
+    let left = certified(rt.alloc(), &pile, &[1, 1, 1], &[1, 2, 3])?;
+    assert!(rt; left.is_some_and(|heights| heights.as_slice() == [2, 2, 2].as_slice()));
+    Ok(())
 }
 
 #[test]

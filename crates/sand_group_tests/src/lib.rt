@@ -6,8 +6,6 @@
 #![tactic(auto)]
 
 #[cfg(test)]
-mod claims;
-#[cfg(test)]
 mod classes;
 #[cfg(test)]
 mod guesses;
@@ -21,5 +19,3 @@ mod piles;
 mod settling;
 #[cfg(test)]
 mod shapes;
-#[cfg(test)]
-mod waves;

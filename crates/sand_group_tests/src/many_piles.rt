@@ -7,7 +7,7 @@ use crate::piles::pile_on;
 use sand_certify::certified;
 use sand_guess::{Claim, guessed, is_flat, is_small, swept, toppled};
 use sand_model::{Edge, Pile};
-use std::alloc::Global;
+use std::alloc::{AllocError, Global};
 
 const PILES: u64 = 400;
 
@@ -88,21 +88,14 @@ impl Numbers {
     }
 }
 
-// The heights after a claim, if it is accepted.
-fn left_by(alloc: Global, pile: &Pile, claim: Claim) -> Option<Vec<u64>> {
-    certified(alloc, pile, &claim.counts, &claim.turns).ok()?
-}
-
-fn left_by_guess(alloc: Global, pile: &Pile) -> Option<Vec<u64>> {
-    left_by(alloc, pile, guessed(alloc, pile).ok()??)
-}
-
-fn left_by_tiles(alloc: Global, pile: &Pile) -> Option<Vec<u64>> {
-    left_by(alloc, pile, toppled(alloc, pile).ok()??)
-}
-
-fn left_by_sweeps(alloc: Global, pile: &Pile) -> Option<Vec<u64>> {
-    left_by(alloc, pile, swept(alloc, pile).ok()??)
+// Whether a claim is made and accepted.
+fn is_accepted(alloc: Global, pile: &Pile, claim: Result<Option<Claim>, AllocError>) -> bool {
+    match claim {
+        Ok(Some(claim)) => certified(alloc, pile, &claim.counts, &claim.turns).is_ok_and(
+            |left| left.is_some(),
+        ),
+        _ => false,
+    }
 }
 
 #[test]
@@ -111,14 +104,14 @@ fn claims_for_many_piles_are_accepted(rt: HostRuntime) {
     let (mut piles, mut flat, mut small) = (0u64, 0u64, 0u64);
     for _ in 0..PILES {
         if let Some(pile) = numbers.pile(rt.alloc()) {
-            assert!(rt; left_by_guess(rt.alloc(), &pile).is_some());
+            assert!(rt; is_accepted(rt.alloc(), &pile, guessed(rt.alloc(), &pile)));
             piles = piles.saturating_add(1);
             // A large pile with many grains may need more visits than are tried.
-            if is_flat(&pile) && left_by_tiles(rt.alloc(), &pile).is_some() {
+            if is_flat(&pile) && is_accepted(rt.alloc(), &pile, toppled(rt.alloc(), &pile)) {
                 flat = flat.saturating_add(1);
             }
             if is_small(pile.shape(), pile.grains()) {
-                assert!(rt; left_by_sweeps(rt.alloc(), &pile).is_some());
+                assert!(rt; is_accepted(rt.alloc(), &pile, swept(rt.alloc(), &pile)));
                 small = small.saturating_add(1);
             }
         }

@@ -74,10 +74,7 @@ fn knows_the_identity(rt: HostRuntime) {
 
 // A recurrent pile in one row.
 fn recurrent(alloc: Global, heights: &[u64]) -> Option<Recurrent> {
-    let pile = row(alloc, heights)?;
-    let recurrent = Recurrent::from_pile(alloc, &pile).ok();
-    drop(pile);
-    recurrent
+    Recurrent::from_pile(alloc, &row(alloc, heights)?).ok()
 }
 
 // The sum of two recurrent piles in one row.
@@ -87,13 +84,9 @@ fn sum_of(alloc: Global, pile: &[u64], other: &[u64]) -> Option<Result<Recurrent
 }
 
 #[test]
-fn adds(rt: HostRuntime) {
+fn adds_in_one_shape(rt: HostRuntime) {
     let sum = sum_of(rt.alloc(), &[3, 1], &[0, 2]);
     assert!(rt; sum.is_some_and(|sum| is_made(sum, &[3, 3])));
-}
-
-#[test]
-fn refuses_two_shapes(rt: HostRuntime) {
     let sum = sum_of(rt.alloc(), &[3], &[3, 1]);
     assert!(rt; sum.is_some_and(|sum| refusal(sum) == 9));
 }
@@ -122,16 +115,11 @@ fn inverts_and_multiplies(rt: HostRuntime) -> Result<(), Fail> {
     Ok(())
 }
 
-// What a pile settles to after a grain is added to its first site.
-fn acted(alloc: Global, pile: &Recurrent) -> Result<Recurrent, GroupFault> {
-    let _ = pile.pile().shape().sites();
-    act(alloc, pile, 0)
-}
-
 #[test]
 fn acts(rt: HostRuntime) -> Result<(), Fail> {
     let full = recurrent(rt.alloc(), &[3, 3]).ok_or("not recurrent")?;
-    assert!(rt; is_made(acted(rt.alloc(), &full), &[1, 0]));
+    assert!(rt; full.pile().shape().sites() == 2);
+    assert!(rt; is_made(act(rt.alloc(), &full, 0), &[1, 0]));
     drop(full);
     Ok(())
 }
@@ -164,18 +152,22 @@ fn numbers_of_the_faults_of_the_group(rt: HostRuntime) {
     }
 }
 
-// Whether the recurrent pile equivalent to a pile has these heights.
-fn is_equivalent(alloc: Global, pile: Option<Pile>, heights: &[u64]) -> bool {
-    pile.is_some_and(|pile| is_made(equivalent_recurrent(alloc, &pile), heights))
-}
-
 #[test]
-fn finds_the_equivalent_recurrent_pile(rt: HostRuntime) {
-    let alloc = rt.alloc();
-    let unstable = pile_on(alloc, 2, 2, Edge::Open, &[9, 0, 0, 5]);
-    assert!(rt; is_equivalent(alloc, unstable, &[1, 3, 3, 1]));
-    let forbidden = pile_on(alloc, 2, 2, Edge::Open, &[0, 0, 0, 1]);
-    assert!(rt; is_equivalent(alloc, forbidden, &[2, 2, 2, 3]));
-    let round = pile_on(alloc, 3, 2, Edge::Cylinder, &[7, 0, 0, 0, 0, 1]);
-    assert!(rt; is_equivalent(alloc, round, &[0, 3, 3, 3, 1, 2]));
+fn finds_the_equivalent_recurrent_pile(rt: HostRuntime) -> Result<(), Fail> {
+    for (width, edge, heights, expected) in [
+        (
+            2,
+            Edge::Open,
+            [9, 0, 0, 5].as_slice(),
+            [1, 3, 3, 1].as_slice(),
+        ),
+        (2, Edge::Open, &[0, 0, 0, 1], &[2, 2, 2, 3]),
+        (3, Edge::Cylinder, &[7, 0, 0, 0, 0, 1], &[0, 3, 3, 3, 1, 2]),
+    ] {
+        let pile = pile_on(rt.alloc(), width, 2, edge, heights).ok_or("no pile")?;
+        let made = equivalent_recurrent(rt.alloc(), &pile);
+        drop(pile);
+        assert!(rt; is_made(made, expected), "{heights:?}");
+    }
+    Ok(())
 }

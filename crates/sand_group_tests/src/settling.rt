@@ -3,36 +3,33 @@
 use crate::piles::{pile_on, ring, row};
 use sand_model::{Edge, Pile};
 use sand_settle::{
-    Avalanche, OneFault, OnePile, SettleFault, Settled, Totals, settle, settle_in_place,
+    Avalanche, DrivenPile, OneFault, OnePile, SettleFault, Totals, settle, settle_in_place,
 };
 use std::alloc::{AllocError, Global};
 use std::test::Fail;
 
-// What a pile settles to.
-fn record_of(alloc: Global, start: Option<Pile>) -> Option<Settled> {
-    settle(alloc, &start?).ok()
-}
-
-// Whether a record has these heights, this odometer, and these numbers of lost grains and topplings.
-fn is_record(record: Option<Settled>, heights: &[u64], odometer: &[u64], sums: (u64, u64)) -> bool {
-    record.is_some_and(|record| {
-        record.pile().heights() == heights
-            && record.odometers() == odometer
-            && (record.lost(), record.topplings()) == sums
-    })
-}
-
-// Whether heights settle to these where they are, over an odometer that held something else.
-fn is_in_place(
+// Whether a pile settles to these heights, with this odometer, and these numbers of lost grains and topplings.
+fn settles(
     alloc: Global,
     start: Option<Pile>,
     heights: &[u64],
     odometer: &[u64],
     sums: (u64, u64),
 ) -> Option<bool> {
-    let start = start?;
-    let shape = start.shape();
-    let mut list = Vec::from_slice(alloc, start.heights()).ok()?;
+    let record = settle(alloc, &start?).ok()?;
+    let is_right = record.pile().heights() == heights && record.odometers() == odometer;
+    Some(is_right && (record.lost(), record.topplings()) == sums)
+}
+
+// Whether they settle so where they are, over an odometer that held something else.
+fn settles_in_place(
+    alloc: Global,
+    start: Option<Pile>,
+    heights: &[u64],
+    odometer: &[u64],
+    sums: (u64, u64),
+) -> Option<bool> {
+    let (shape, mut list) = start?.into_parts();
     let mut counts = vec![in alloc; 7u64; shape.sites()].ok()?;
     let Totals { topplings, lost } = settle_in_place(alloc, shape, &mut list, &mut counts).ok()?;
     let is_right = list.as_slice() == heights && counts.as_slice() == odometer;
@@ -51,11 +48,11 @@ const SETTLED: [(Edge, &[u64], &[u64], &[u64], (u64, u64)); 4] = [
 fn settles_as_worked_out(rt: HostRuntime) {
     for (edge, start, heights, odometer, sums) in SETTLED {
         let pile = pile_on(rt.alloc(), start.len(), 1, edge, start);
-        let record = record_of(rt.alloc(), pile);
-        assert!(rt; is_record(record, heights, odometer, sums), "{start:?}");
+        let settles = settles(rt.alloc(), pile, heights, odometer, sums);
+        assert!(rt; settles == Some(true), "{start:?}");
         let pile = pile_on(rt.alloc(), start.len(), 1, edge, start);
-        let is_in_place = is_in_place(rt.alloc(), pile, heights, odometer, sums);
-        assert!(rt; is_in_place == Some(true), "{start:?} in place");
+        let in_place = settles_in_place(rt.alloc(), pile, heights, odometer, sums);
+        assert!(rt; in_place == Some(true), "{start:?} in place");
     }
 }
 
@@ -67,12 +64,10 @@ fn settles_high_piles_of_one_site(rt: HostRuntime) {
         (4_294_967_296, 0, 1_073_741_824),
         (1_099_511_627_775, 3, 274_877_906_943),
     ] {
-        let record = record_of(rt.alloc(), row(rt.alloc(), &[start]));
+        let pile = row(rt.alloc(), &[start]);
         let sums = (start - height, topplings);
-        assert!(rt;
-            is_record(record, &[height], &[topplings], sums),
-            "at {start}"
-        );
+        let settles = settles(rt.alloc(), pile, &[height], &[topplings], sums);
+        assert!(rt; settles == Some(true), "at {start}");
     }
 }
 
@@ -151,4 +146,35 @@ fn numbers_of_the_faults_of_settling(rt: HostRuntime) {
     assert!(rt; SettleFault::Memory(AllocError).number() == 4);
     assert!(rt; OneFault::Full.number() == 6);
     assert!(rt; OneFault::Memory(AllocError).number() == 4);
+}
+
+// The sizes of the waves of a grain on a site of 3 by 3 sites that all have 3, in a list of three zeros, and their number.
+fn waves_at(alloc: Global, edge: Edge, site: usize) -> Option<(Vec<u64>, usize)> {
+    let mut driven = DrivenPile::new(alloc, &pile_on(alloc, 3, 3, edge, &[3; 9])?).ok()?;
+    let mut sizes = vec![in alloc; 0u64; 3].ok()?;
+    if site >= driven.shape().sites() {
+        return None;
+    }
+    let (_, _, waves) = driven.drop_with_waves(site, &mut sizes).ok()?;
+    Some((sizes, waves))
+}
+
+// Each first wave topples all sites. Then the dropped site has a grain of each neighbour. So the middle has 4 again: with
+// open edges all others have less than 3, and on a cylinder the sites next to it have 3, and topple as well.
+const WAVES: [(Edge, usize, [u64; 3], usize); 4] = [
+    (Edge::Open, 4, [9, 1, 0], 2),
+    (Edge::Open, 0, [9, 0, 0], 1),
+    (Edge::Cylinder, 4, [9, 3, 0], 2),
+    (Edge::Cylinder, 0, [9, 0, 0], 1),
+];
+
+#[test]
+fn waves_as_worked_out(rt: HostRuntime) {
+    for (edge, site, sizes, waves) in WAVES {
+        let found = waves_at(rt.alloc(), edge, site);
+        let is_right = found.is_some_and(|(list, count)| {
+            list.as_slice() == sizes.as_slice() && count == waves
+        });
+        assert!(rt; is_right, "at site {site}");
+    }
 }

@@ -5,11 +5,7 @@ use std::test::Fail;
 
 // The neighbours of a site, and the number that are missing, if the site is in the grid.
 fn around(shape: Shape, site: usize) -> Option<([Option<usize>; 4], u8)> {
-    if site < shape.sites() {
-        Some((shape.neighbours(site), shape.missing(site)))
-    } else {
-        None
-    }
+    (site < shape.sites()).then(|| (shape.neighbours(site), shape.missing(site)))
 }
 
 // A corner, a middle site and both ends of a row, on a grid and on a cylinder: north, west, east, south.
