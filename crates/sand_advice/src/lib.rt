@@ -20,4 +20,3 @@ pub use advising::advice;
 pub use keeping::Kept;
 pub use misuse::tip;
 pub use progress::{Cleared, Progress, progress_of};
-pub use sand_cli::{EXPLAIN_HELP, Explained, explained_text, fault_named};

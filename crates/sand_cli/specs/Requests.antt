@@ -5,11 +5,6 @@ use Rattle.sand_cli.specs.Names as names
 use Rattle.sand_cli.specs.declared.requests.Request.{Request}
 use Rattle.sand_cli.specs.declared.requests.Request.TheVariants as request
 
--- the words are the program's name and `--version`
-abbrev pub asks_for_version : List (List ℕ) → Bool
-asks_for_version (program ∷ word ∷ []) = bytes_eq word (codes "--version")
-asks_for_version _ = false
-
 abbrev pub is_version : List ℕ → Bool
 is_version word = bytes_eq word (codes "-V") || bytes_eq word (codes "--version")
 

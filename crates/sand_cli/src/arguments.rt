@@ -30,11 +30,7 @@ impl<R: Env> Env for AfterName<'_, R> {
 // Whether the program was called by a name.
 fn is_named<R: Env>(rt: &R) -> bool {
     let mut start = [0u8; 1];
-    match rt.arg(0, &mut start) {
-        Ok(count) => count > 0,
-        Err(FillError::TooLong) => true,
-        Err(FillError::NotPresent) => false,
-    }
+    !matches!(rt.arg(0, &mut start), Ok(0) | Err(FillError::NotPresent))
 }
 
 /// The words, after `sandpile` in place of the program's name; if that is empty or missing, after an empty word. `help`

@@ -7,8 +7,6 @@ use std::alloc::{AllocError, Global};
 pub struct Explained {
     pub number: u32,
     pub name: &'static str,
-    /// What follows the name in the fault's line.
-    pub place: &'static str,
     pub meaning: &'static str,
     pub remedy: &'static str,
 }
@@ -18,7 +16,6 @@ static FAULTS: [Explained; 16] = [
     Explained {
         number: 1,
         name: "Side",
-        place: "",
         meaning: "The width or the height of a grid is outside 1 to 256.",
         remedy: "\
 The first two numbers of a pile are its width and its height. If they are
@@ -27,7 +24,6 @@ missing, put them on a line before the grid.",
     Explained {
         number: 2,
         name: "Length",
-        place: "",
         meaning: "The number of heights is not width times height.",
         remedy: "\
 Give one height per site, row by row. Only 'drops' without --count accepts
@@ -36,7 +32,6 @@ numbers after the heights: the sites of the drops.",
     Explained {
         number: 3,
         name: "TooManyGrains",
-        place: "",
         meaning: "\
 The pile has more than 1,099,511,627,775 grains, or would have with all
 drops of 'lab'.",
@@ -45,7 +40,6 @@ drops of 'lab'.",
     Explained {
         number: 4,
         name: "Memory",
-        place: "",
         meaning: "The program ran out of memory.",
         remedy: "\
 Free some memory, or use a smaller pile. 'lab' needs less for fewer drops,
@@ -54,14 +48,12 @@ Free some memory, or use a smaller pile. 'lab' needs less for fewer drops,
     Explained {
         number: 6,
         name: "Full",
-        place: "",
         meaning: "The pile and its drops exceed 1,099,511,627,775 grains together.",
         remedy: "Drop fewer grains.",
     },
     Explained {
         number: 7,
         name: "Unstable",
-        place: "",
         meaning: "A site has more than 3 grains, but the command needs a stable pile.",
         remedy: "\
 Settle the pile first: 'sandpile settle --pile' writes only the settled
@@ -70,7 +62,6 @@ pile.",
     Explained {
         number: 8,
         name: "NotRecurrent",
-        place: "",
         meaning: "A pile is not recurrent: some of its sites form a forbidden set.",
         remedy: "\
 'sandpile burn' lists these sites. 'sandpile recurrent' writes the
@@ -79,14 +70,12 @@ equivalent recurrent pile.",
     Explained {
         number: 9,
         name: "Shapes",
-        place: "",
         meaning: "The two piles differ in width or height, or only one is a cylinder.",
         remedy: "Give two piles of the same shape.",
     },
     Explained {
         number: 18,
         name: "Text",
-        place: " at N",
         meaning: "\
 Byte N of the input, counted from 0, cannot be part of a pile; or the input
 ends there, without a width and a height.",
@@ -98,7 +87,6 @@ and the grains on each site, row by row. To pass on the pile of 'settle',
     Explained {
         number: 19,
         name: "TooLarge",
-        place: " at N",
         meaning: "\
 The number at byte N of the input, counted from 0, is over
 1,099,511,627,775.",
@@ -107,14 +95,12 @@ The number at byte N of the input, counted from 0, is over
     Explained {
         number: 20,
         name: "Read",
-        place: "",
         meaning: "Standard input could not be read.",
         remedy: "Check the file or the pipe: a directory or a closed input cannot be read.",
     },
     Explained {
         number: 21,
         name: "Write",
-        place: " after N",
         meaning: "Writing to standard output failed after the first N bytes of the result.",
         remedy: "\
 Check the file or the pipe: the disk may be full, or the program that reads
@@ -123,7 +109,6 @@ the pipe may have ended.",
     Explained {
         number: 22,
         name: "TooLong",
-        place: "",
         meaning: "The input has more than 1,048,576 bytes.",
         remedy: "\
 Check that the input is a pile. With 'drops --count' the sites are drawn,
@@ -132,7 +117,6 @@ and need not be in the input.",
     Explained {
         number: 23,
         name: "Usage",
-        place: "",
         meaning: "\
 The command line is invalid. A message about it replaces the fault line, and
 the status is 2.",
@@ -141,14 +125,12 @@ the status is 2.",
     Explained {
         number: 24,
         name: "Narrow",
-        place: "",
         meaning: "A cylinder is less than 3 wide.",
         remedy: "Make it wider, or omit the letter c after the height, or --cylinder.",
     },
     Explained {
         number: 25,
         name: "NoSite",
-        place: " at N",
         meaning: "Drop N, counted from 0, is outside the grid.",
         remedy: "\
 Sites are numbered from 0, row by row; the last one is width times height
@@ -202,11 +184,12 @@ fn push_indented(text: &mut String, lines: &str) -> Result<(), AllocError> {
 }
 
 fn push_explained(text: &mut String, fault: &Explained) -> Result<(), AllocError> {
-    write!(
-        text,
-        "fault {} {}{}\n",
-        fault.number, fault.name, fault.place
-    )?;
+    let place = match fault.number {
+        18 | 19 | 25 => " at N",
+        21 => " after N",
+        _ => "",
+    };
+    write!(text, "fault {} {}{place}\n", fault.number, fault.name)?;
     push_indented(text, fault.meaning)?;
     push_indented(text, fault.remedy)
 }

@@ -6,10 +6,8 @@
 /// The help of the program or of one command.
 #[derive(Clone, Copy)]
 pub(crate) struct Help {
-    /// What it does, in one line.
+    /// What it does, in one line. The long help begins with all lines.
     pub(crate) about: &'static str,
-    /// The start of the long help, if it is not `about`.
-    pub(crate) purpose: Option<&'static str>,
     /// The text after the options in the long help.
     pub(crate) details: &'static str,
 }
@@ -24,7 +22,6 @@ pub(crate) const SHORT: &str = "\
 
 pub(crate) const PROGRAM: Help = Help {
     about: "Settles sandpiles on a grid, and computes in the sandpile group",
-    purpose: None,
     details: "\
 \x20 -V, --version
           Print the version
@@ -68,7 +65,6 @@ Example: a pile 3 wide and 1 high, with 4 grains in the middle.
 
 pub(crate) const SETTLE: Help = Help {
     about: "Settles a pile: topples sites until each has at most 3 grains",
-    purpose: None,
     details: "\
 Input: a pile (see 'sandpile --help' for the format).
 
@@ -90,7 +86,6 @@ Example:
 
 pub(crate) const BURN: Help = Help {
     about: "Tests whether a pile is recurrent (burning test)",
-    purpose: None,
     details: "\
 Input: a pile (see 'sandpile --help' for the format) with at most 3 grains on
   each site.
@@ -108,7 +103,6 @@ Example:
 
 pub(crate) const IDENTITY: Help = Help {
     about: "Writes the identity of the sandpile group of a grid",
-    purpose: None,
     details: "\
 Input: none.
 
@@ -127,7 +121,6 @@ Example:
 
 pub(crate) const DROPS: Help = Help {
     about: "Settles a pile, then drops grains on it, one after another",
-    purpose: None,
     details: "\
 Input: a pile (see 'sandpile --help' for the format), then the site number of
   each drop, counted from 0, row by row. With --count, only the pile: the sites
@@ -159,7 +152,6 @@ Example:
 
 pub(crate) const ADD: Help = Help {
     about: "Adds two recurrent piles: adds their heights, then settles",
-    purpose: None,
     details: "\
 Input: two recurrent piles of the same shape, one after the other (see 'sandpile
   --help' for the format).
@@ -175,7 +167,6 @@ Example:
 
 pub(crate) const INVERSE: Help = Help {
     about: "Writes the inverse of a recurrent pile",
-    purpose: None,
     details: "\
 Input: a recurrent pile (see 'sandpile --help' for the format).
 
@@ -191,7 +182,6 @@ Example:
 
 pub(crate) const MULTIPLE: Help = Help {
     about: "Writes the N-fold sum of a recurrent pile",
-    purpose: None,
     details: "\
 Input: a recurrent pile (see 'sandpile --help' for the format).
 
@@ -207,7 +197,6 @@ Example:
 
 pub(crate) const RECURRENT: Help = Help {
     about: "Writes the unique recurrent pile equivalent to a pile",
-    purpose: None,
     details: "\
 Input: a pile (see 'sandpile --help' for the format).
 
@@ -223,9 +212,7 @@ Example:
 };
 
 pub(crate) const LAB: Help = Help {
-    about: "Drops grains on a pile from many threads at once, in epochs",
-    purpose: Some(
-        "\
+    about: "\
 Drops grains on a pile from many threads at once, in epochs
 
 It has three uses:
@@ -235,7 +222,6 @@ It has three uses:
     left the grid and the grains on the pile
   - showing that threads do not matter: the same seed gives the same pile and
     odometer, however the threads interleave",
-    ),
     details: "\
 Input: a pile (see 'sandpile --help' for the format).
 
@@ -288,7 +274,11 @@ pub(crate) const STREAM: &str = "Stream, up to 4294967295 [default: 0]";
 
 pub(crate) const FROM: &str = "Sites to skip, up to 4294967295 [default: 0]";
 
-// The option of `multiple`.
+// The options of `identity` and `multiple`, with their limits.
+
+pub(crate) const WIDTH: &str = "Number of columns, from 1 to 256";
+
+pub(crate) const HEIGHT: &str = "Number of rows, from 1 to 256";
 
 pub(crate) const TIMES: &str = "N, the number of copies, up to 18446744073709551615";
 

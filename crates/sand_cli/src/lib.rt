@@ -17,5 +17,5 @@ pub use arguments::{is_nothing, words_of};
 pub use explain::{EXPLAIN_HELP, Explained, explained_text, fault_named, fault_numbered};
 pub use fault::{Conflict, WordsFault};
 pub use names::{is_command, is_flag};
-pub use requests::{Asked, Misuse, Request, asks_for_version, request_of};
+pub use requests::{Asked, Misuse, Request, request_of};
 pub use task::{Draw, Form, Part, Task, task_of};

@@ -17,16 +17,8 @@ use sand_plan::{
 };
 use std::alloc::{AllocError, Global};
 
-// An option without a value.
-fn flag<'a>(alloc: Global, name: &'a str, about: &'static str) -> Arg<'a>
-    ensures rule { rule_of result ≡ flag name.entry.now }
-    ensures local { result.global ≡ false }
-{
-    Arg::new(alloc, name)
-        .long(name)
-        .action(ArgAction::SetTrue)
-        .help(about)
-}
+/// A command, or out of memory.
+type Line<'a> = Result<Command<'a>, AllocError>;
 
 // An option with an integer from `least` to `most`.
 fn number<'a>(alloc: Global, name: &'a str, least: u64, most: u64, about: &'static str) -> Arg<'a>
@@ -41,112 +33,78 @@ fn number<'a>(alloc: Global, name: &'a str, least: u64, most: u64, about: &'stat
         .help(about)
 }
 
-// An option with a 32-bit unsigned integer.
-fn word<'a>(alloc: Global, name: &'a str, about: &'static str) -> Arg<'a>
-    ensures rule { rule_of result ≡ number name.entry.now 0 4294967295 }
-    ensures local { result.global ≡ false }
-{
-    number(alloc, name, 0, 4294967295, about)
-}
-
-// An option with an integer from `least` to `most`; required.
-fn required<'a>(alloc: Global, name: &'a str, least: u64, most: u64, about: &'static str) -> Arg<'a>
-    ensures rule { rule_of result ≡ required name.entry.now least most }
-    ensures local { result.global ≡ false }
-{
-    number(alloc, name, least, most, about).required(true)
-}
-
-// A setting with an integer from `least` to `most` that defaults to `usual`.
-fn setting<'a>(alloc: Global, named: Setting, least: u32, most: u32, usual: &'static str) -> Arg<'a>
-    ensures rule { rule_of result ≡ setting named.0.now least most usual.now }
-    ensures local { result.global ≡ false }
-{
-    number(alloc, named.0, u64::from(least), u64::from(most), named.1).default_value(usual)
-}
-
 fn bare_line<'a>(alloc: Global, name: &'a str, help: Help) -> Command<'a>
     ensures { IsLine result (bare_line name.entry.now) }
 {
+    let (first, _) = help.about.split_once('\n').unwrap_or((help.about, ""));
     Command::new(alloc, name)
-        .about(help.about)
-        .long_about(help.purpose.unwrap_or(help.about))
+        .about(first)
+        .long_about(help.about)
         .after_long_help(help.details)
-}
-
-// The program itself, without its commands.
-fn program_line<'a>(alloc: Global) -> Command<'a>
-    ensures { app_of result ≡ bare_line (codes "sandpile") }
-{
-    bare_line(alloc, "sandpile", help::PROGRAM).after_help(help::SHORT)
 }
 
 // Adds an option to a command. Takes a `Result` because in a chain of `?` the prover looks up every live value again at
 // each later call, which doubles the proof time.
-fn with_option<'a>(
-    line: Result<Command<'a>, AllocError>,
-    option: Arg<'a>,
-) -> Result<Command<'a>, AllocError>
+fn with_option<'a>(line: Line<'a>, option: Arg<'a>) -> Line<'a>
     ensures { (rule : Rule) → rule_of option.entry ≡ rule → option.entry.global ≡ false
         → AddsRule line.entry result rule }
 {
     line?.arg(option)
 }
 
+// Adds an option without a value.
 #[inline(never)]
-fn with_flag<'a>(
-    alloc: Global,
-    line: Result<Command<'a>, AllocError>,
-    name: &'a str,
-    about: &'static str,
-) -> Result<Command<'a>, AllocError>
+fn with_flag<'a>(alloc: Global, line: Line<'a>, name: &'a str, about: &'static str) -> Line<'a>
     ensures { AddsRule line.entry result (flag name.entry.now) }
 {
-    with_option(line, flag(alloc, name, about))
+    let option = Arg::new(alloc, name)
+        .long(name)
+        .action(ArgAction::SetTrue)
+        .help(about);
+    with_option(line, option)
 }
 
+// Adds an option with a 32-bit unsigned integer.
 #[inline(never)]
-fn with_word<'a>(
-    alloc: Global,
-    line: Result<Command<'a>, AllocError>,
-    name: &'a str,
-    about: &'static str,
-) -> Result<Command<'a>, AllocError>
+fn with_word<'a>(alloc: Global, line: Line<'a>, name: &'a str, about: &'static str) -> Line<'a>
     ensures { AddsRule line.entry result (number name.entry.now 0 4294967295) }
 {
-    with_option(line, word(alloc, name, about))
+    with_option(line, number(alloc, name, 0, 4294967295, about))
 }
 
+// Adds an option with an integer from `least` to `most`; required.
 #[inline(never)]
 fn with_required<'a>(
     alloc: Global,
-    line: Result<Command<'a>, AllocError>,
+    line: Line<'a>,
     name: &'a str,
     least: u64,
     most: u64,
     about: &'static str,
-) -> Result<Command<'a>, AllocError>
+) -> Line<'a>
     ensures { AddsRule line.entry result (required name.entry.now least most) }
 {
-    with_option(line, required(alloc, name, least, most, about))
+    with_option(line, number(alloc, name, least, most, about).required(true))
 }
 
+// Adds a setting with an integer from `least` to `most` that defaults to `usual`.
 #[inline(never)]
 fn with_setting<'a>(
     alloc: Global,
-    line: Result<Command<'a>, AllocError>,
+    line: Line<'a>,
     named: Setting,
     least: u32,
     most: u32,
     usual: &'static str,
-) -> Result<Command<'a>, AllocError>
+) -> Line<'a>
     ensures { AddsRule line.entry result (setting named.0.now least most usual.now) }
 {
-    with_option(line, setting(alloc, named, least, most, usual))
+    let option = number(alloc, named.0, u64::from(least), u64::from(most), named.1);
+    with_option(line, option.default_value(usual))
 }
 
 #[inline(never)]
-fn pgm_line<'a>(alloc: Global, name: &'a str, help: Help) -> Result<Command<'a>, AllocError>
+fn pgm_line<'a>(alloc: Global, name: &'a str, help: Help) -> Line<'a>
     ensures { IfLine result (pgm_line name.entry.now) }
 {
     let line = Ok(bare_line(alloc, name, help));
@@ -154,7 +112,7 @@ fn pgm_line<'a>(alloc: Global, name: &'a str, help: Help) -> Result<Command<'a>,
 }
 
 #[inline(never)]
-fn settle_line<'a>(alloc: Global) -> Result<Command<'a>, AllocError>
+fn settle_line<'a>(alloc: Global) -> Line<'a>
     ensures { IfLine result settle_line }
 {
     let line = Ok(bare_line(alloc, "settle", help::SETTLE));
@@ -163,7 +121,7 @@ fn settle_line<'a>(alloc: Global) -> Result<Command<'a>, AllocError>
 }
 
 #[inline(never)]
-fn drops_line<'a>(alloc: Global) -> Result<Command<'a>, AllocError>
+fn drops_line<'a>(alloc: Global) -> Line<'a>
     ensures { IfLine result drops_line }
 {
     let line = Ok(bare_line(alloc, "drops", help::DROPS));
@@ -176,32 +134,18 @@ fn drops_line<'a>(alloc: Global) -> Result<Command<'a>, AllocError>
 }
 
 #[inline(never)]
-fn identity_line<'a>(alloc: Global) -> Result<Command<'a>, AllocError>
+fn identity_line<'a>(alloc: Global) -> Line<'a>
     ensures { IfLine result identity_line }
 {
     let line = Ok(bare_line(alloc, "identity", help::IDENTITY));
-    let line = with_required(
-        alloc,
-        line,
-        "width",
-        1,
-        256,
-        "Number of columns, from 1 to 256",
-    );
-    let line = with_required(
-        alloc,
-        line,
-        "height",
-        1,
-        256,
-        "Number of rows, from 1 to 256",
-    );
+    let line = with_required(alloc, line, "width", 1, 256, help::WIDTH);
+    let line = with_required(alloc, line, "height", 1, 256, help::HEIGHT);
     let line = with_flag(alloc, line, "cylinder", "Make the rows wrap around");
     with_flag(alloc, line, "pgm", help::PGM)
 }
 
 #[inline(never)]
-fn multiple_line<'a>(alloc: Global) -> Result<Command<'a>, AllocError>
+fn multiple_line<'a>(alloc: Global) -> Line<'a>
     ensures { IfLine result multiple_line }
 {
     let line = Ok(bare_line(alloc, "multiple", help::MULTIPLE));
@@ -210,7 +154,7 @@ fn multiple_line<'a>(alloc: Global) -> Result<Command<'a>, AllocError>
 }
 
 #[inline(never)]
-fn lab_line<'a>(alloc: Global) -> Result<Command<'a>, AllocError>
+fn lab_line<'a>(alloc: Global) -> Line<'a>
     ensures { IfLine result lab_line }
 {
     let line = Ok(bare_line(alloc, "lab", help::LAB));
@@ -227,10 +171,7 @@ fn lab_line<'a>(alloc: Global) -> Result<Command<'a>, AllocError>
 }
 
 // Adds a command to the command line, if both are `Ok`.
-fn with_command<'a>(
-    line: Result<Command<'a>, AllocError>,
-    command: Result<Command<'a>, AllocError>,
-) -> Result<Command<'a>, AllocError>
+fn with_command<'a>(line: Line<'a>, command: Line<'a>) -> Line<'a>
     ensures { (old sub : App) → IfOk line.entry (λ c. app_of c ≡ old) → IfLine command.entry sub
         → IfOk result (λ c. app_of c ≡ or_command old sub) }
 {
@@ -239,10 +180,11 @@ fn with_command<'a>(
 
 /// The command line of `sandpile`.
 #[inline(never)]
-pub(crate) fn command_line<'a>(alloc: Global) -> Result<Command<'a>, AllocError>
+pub(crate) fn command_line<'a>(alloc: Global) -> Line<'a>
     ensures { IfOk result (λ c. app_of c ≡ command_line) }
 {
-    let top = program_line(alloc)
+    let top = bare_line(alloc, "sandpile", help::PROGRAM)
+        .after_help(help::SHORT)
         .subcommand_required(true)
         .disable_help_subcommand(true);
     let line = with_command(Ok(top), settle_line(alloc));

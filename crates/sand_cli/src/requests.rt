@@ -1,7 +1,7 @@
 //! What the words ask for: a command's task, or something of the program itself.
 
 ghost use Rattle.std.specs.Prelude.{◌≡◌, IfErr, IfOk, map, string_bytes, true};
-ghost use Rattle.sand_cli.specs.Requests.{IsAsked, IsOfExplain, asks_for_version, is_command, is_version, wants_explanation, wants_version};
+ghost use Rattle.sand_cli.specs.Requests.{IsAsked, IsOfExplain, is_command, is_version, wants_explanation, wants_version};
 
 use crate::explain::fault_named;
 use crate::names;
@@ -39,10 +39,6 @@ fn is_version(word: &str) -> bool
     matches!(word, "--version" | "-V")
 }
 
-fn is_help(word: &str) -> bool {
-    matches!(word, "--help" | "-h")
-}
-
 // Whether a word is a command, or `explain`.
 fn is_command(word: &str) -> bool
     ensures { result ≡ is_command word.now }
@@ -50,23 +46,13 @@ fn is_command(word: &str) -> bool
     names::is_command(word) || word == "explain"
 }
 
-/// Whether the words, starting with the program's name, ask for the version.
-pub fn asks_for_version(words: &[String]) -> bool
-    ensures { result ≡ asks_for_version (map string_bytes words.now) }
-{
-    match words {
-        [_, word] => word.as_str() == "--version",
-        _ => false,
-    }
-}
-
 fn wants_version(words: &[String]) -> bool
     ensures { result ≡ wants_version (map string_bytes words.now) }
 {
     match words {
-        [_, word] if word.as_str() == "-V" => true,
+        [_, word] => is_version(word.as_str()),
         [_, command, word] => is_command(command.as_str()) && is_version(word.as_str()),
-        _ => asks_for_version(words),
+        _ => false,
     }
 }
 
@@ -79,26 +65,17 @@ fn wants_explanation(words: &[String]) -> bool
     }
 }
 
-// What `explain WORD` asks for.
-fn explanation_of(word: &str) -> Result<Request, Misuse<'_>>
-    ensures { IfOk result IsOfExplain }
-{
-    if is_help(word) {
-        return Ok(Request::ExplainHelp);
-    }
-    match fault_named(word) {
-        Some(fault) => Ok(Request::Explain(Some(fault.number))),
-        None => Err(Misuse::NoFault(word)),
-    }
-}
-
 // What the words after `explain` ask for.
 fn explanation_in(words: &[String]) -> Result<Request, Misuse<'_>>
     ensures { IfOk result IsOfExplain }
 {
     match words {
         [] => Ok(Request::Explain(None)),
-        [word] => explanation_of(word.as_str()),
+        [word] if matches!(word.as_str(), "--help" | "-h") => Ok(Request::ExplainHelp),
+        [word] => match fault_named(word.as_str()) {
+            Some(fault) => Ok(Request::Explain(Some(fault.number))),
+            None => Err(Misuse::NoFault(word.as_str())),
+        },
         _ => Err(Misuse::ManyFaults),
     }
 }

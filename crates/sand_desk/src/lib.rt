@@ -15,7 +15,6 @@ pub use answering::answer;
 pub use commands::{run_command, run_gated_command};
 pub use helping::run_or_help;
 pub use laboratory::{journal_text, lab_text};
-pub use sand_cli::asks_for_version;
 pub use sand_commands::{
     DeskFault, burn_text, pgm_text, pile_text, read_drops, read_pile, read_two, report_fault,
     settle_text, show_help, status, table_text, write_fault, write_version,
