@@ -5,12 +5,12 @@ use Rattle.sand_model.specs.Grid.{Grid, column, row, sites}
 use Rattle.sand_settle.specs.Settling.{SettledView}
 use Rattle.sand_group.specs.declared.burning.Burned.{Burned}
 use Rattle.sand_group.specs.declared.burning.Burned.TheVariants.{Recurrent, Forbidden}
-use Rattle.sand_text.specs.Texts.{odometer_text, text_of}
+use Rattle.sand_text.specs.Texts.{odometer_text, sum_line, text_of}
 
 -- the pile, how often each site toppled, and the sums
 abbrev pub settle_text_of : SettledView → List ℕ
 settle_text_of r = text_of r.pile ++ odometer_text r.pile.grid r.odometer
-    ++ codes "lost " ++ decimal r.lost ++ codes "\ntopplings " ++ decimal r.topplings ++ codes "\n"
+    ++ sum_line (codes "lost ") r.lost ++ sum_line (codes "topplings ") r.topplings
 
 -- the line of a site: its column and its row
 abbrev pub place_text : Grid → ℕ → List ℕ

@@ -2,29 +2,24 @@
 //!
 //! `tasks` reads the input, does the task and writes its text. `results` has the texts of a settled pile and of the
 //! burning test; `texts` wraps the parsers and writers of `sand_text`. `faults` has the one fault type of all commands.
-//! `help`, `explaining` and `version` write what words may ask for instead of a command.
+//! `help` writes what words may ask for instead of a command.
 //!
 //! The commands that drop grains drop large values early, by `drop`. If one goes out of scope instead, the function's
 //! proof takes it apart field by field, on each exit path.
 #![tactic(auto)]
 
 mod drawn_drops;
-mod explaining;
 mod faults;
-mod group_commands;
 mod help;
 pub mod laws;
 mod listed_drops;
+mod pile_commands;
 mod results;
-mod settle_command;
 mod tasks;
 mod texts;
-mod version;
 
-pub use explaining::{write_explain_help, write_explained};
 pub use faults::{DeskFault, report_fault, status, write_fault};
-pub use help::show_help;
+pub use help::{show_help, write_explain_help, write_explained, write_version};
 pub use results::{burn_text, settle_text};
 pub use tasks::{carry_out, take_input};
 pub use texts::{pgm_text, pile_text, read_drops, read_pile, read_two, table_text};
-pub use version::write_version;

@@ -97,10 +97,7 @@ fn part_text(
 fn is_pile(part: Part) -> bool
     ensures { result ≡ is_pile part }
 {
-    match part {
-        Part::Pile => true,
-        Part::All | Part::Table => false,
-    }
+    matches!(part, Part::Pile)
 }
 
 /// The wanted part of the text of the drops on the settled pile in the input, at the sites listed after it.

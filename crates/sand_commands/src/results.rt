@@ -10,7 +10,7 @@ use crate::faults::DeskFault;
 use sand_group::Burned;
 use sand_model::Shape;
 use sand_settle::Settled;
-use sand_text::{pile_text, push_number, push_odometer};
+use sand_text::{pile_text, push_number, push_odometer, push_sum};
 use std::alloc::{AllocError, Global};
 
 /// The text of a settled pile: the pile, how often each site toppled, by grid rows, the grains lost, and the total
@@ -20,11 +20,8 @@ pub fn settle_text(alloc: Global, settled: &Settled) -> Result<Vec<u8>, DeskFaul
 {
     let mut text = pile_text(alloc, settled.pile())?;
     push_odometer(&mut text, settled.pile().shape(), settled.odometers())?;
-    text.extend_from_slice(b"lost ")?;
-    push_number(&mut text, settled.lost())?;
-    text.extend_from_slice(b"\ntopplings ")?;
-    push_number(&mut text, settled.topplings())?;
-    text.extend_from_slice(b"\n")?;
+    push_sum(&mut text, "lost ", settled.lost())?;
+    push_sum(&mut text, "topplings ", settled.topplings())?;
     Ok(text)
 }
 

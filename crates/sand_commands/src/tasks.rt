@@ -9,11 +9,11 @@ ghost use Rattle.sand_commands.specs.Commands.{IsFaultWithoutLab, IsTextWithoutL
 
 use crate::drawn_drops::drawn_drops;
 use crate::faults::DeskFault;
-use crate::group_commands::{
-    burn_input, identity_text, inverse_input, multiple_input, recurrent_input, sum_input,
-};
 use crate::listed_drops::listed_drops;
-use crate::settle_command::settle_input;
+use crate::pile_commands::{
+    burn_input, identity_text, inverse_input, multiple_input, recurrent_input, settle_input,
+    sum_input,
+};
 use sand_cli::Task;
 use sand_plan::Gate;
 use sand_text::{StreamFault, read_all, write_text};

@@ -1,4 +1,5 @@
-//! The parsers and writers of `sand_text`, with the program's faults.
+//! The parsers and writers of `sand_text`, with the program's faults. Every fault of a text is found before anything is
+//! allocated, so out of memory comes last.
 
 ghost use Rattle.sand_model.specs.Sand.{IsStable};
 ghost use Rattle.sand_model.specs.Piles.{height_of};
@@ -13,7 +14,7 @@ use sand_model::Pile;
 use sand_settle::Avalanche;
 use std::alloc::Global;
 
-/// Parses a pile. Every fault of the text is found before anything is allocated, so out of memory comes last.
+/// Parses a pile.
 pub fn read_pile(alloc: Global, text: &[u8]) -> Result<Pile, DeskFault>
     ensures { ReadsAs (λ pile. pile) result (pile_of text.now) }
 {
@@ -35,16 +36,14 @@ pub fn pgm_text(alloc: Global, pile: &Pile) -> Result<Vec<u8>, DeskFault>
     Ok(sand_text::pgm_text(alloc, pile)?)
 }
 
-/// Parses two piles, one after the other. Every fault of the text is found before anything is allocated, so out of
-/// memory comes last.
+/// Parses two piles, one after the other.
 pub fn read_two(alloc: Global, text: &[u8]) -> Result<(Pile, Pile), DeskFault>
     ensures { ReadsAs (λ piles. piles) result (two_of text.now) }
 {
     Ok(sand_text::read_two(alloc, text)?)
 }
 
-/// Parses a pile and the sites of the drops after it. Every fault of the text is found before anything is allocated, so
-/// out of memory comes last.
+/// Parses a pile and the sites of the drops after it.
 pub fn read_drops(alloc: Global, text: &[u8]) -> Result<(Pile, Vec<usize>), DeskFault>
     ensures { ReadsAs (λ (pile, drops). (pile, drops.items)) result (drops_of text.now) }
 {

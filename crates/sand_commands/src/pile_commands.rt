@@ -1,4 +1,5 @@
-//! The commands of the group of recurrent piles: `burn`, `identity`, `add`, `inverse`, `multiple` and `recurrent`.
+//! The commands that write a pile or a result of the burning test: `settle`, `burn`, `identity`, `add`, `inverse`,
+//! `multiple` and `recurrent`.
 
 ghost use Rattle.std.specs.Prelude.{◌≡◌, IfOk, IfErr};
 ghost use Rattle.sand_model.specs.Piles.{height_of};
@@ -7,14 +8,30 @@ ghost use Rattle.sand_text.specs.Reading.{pile_of};
 ghost use Rattle.sand_commands.specs.Answers.{IsText};
 ghost use Rattle.sand_commands.specs.Commands.{IsBurnFault, IsShapeless, IsSumFault, IsElementFault, IsUnreadable, Finds};
 ghost use Rattle.sand_commands.specs.GroupCommands.{IsBurnText, IsIdentityText, IsSumText, IsInverseText, IsMultipleText, IsRecurrentText, edge_of};
-ghost use Rattle.sand_commands.specs.SettleCommand.{pile_or_graymap};
+ghost use Rattle.sand_commands.specs.SettleCommand.{IsSettleText, pile_or_graymap};
 
 use crate::faults::DeskFault;
-use crate::results::burn_text;
+use crate::results::{burn_text, settle_text};
 use crate::texts::{pgm_text, pile_text, read_pile, read_two};
+use sand_cli::Form;
 use sand_group::{Recurrent, add, burn, equivalent_recurrent, identity, inverse, multiple};
 use sand_model::{Edge, Pile, Shape};
+use sand_settle::settle;
 use std::alloc::Global;
+
+/// The settled record of the pile in the input as text, or only its pile, as text or as a picture.
+pub(crate) fn settle_input(alloc: Global, input: &[u8], form: Form) -> Result<Vec<u8>, DeskFault>
+    ensures text { IfOk result (λ text. IsSettleText form input.now text.items) }
+    ensures fault { IfErr result (Finds (IsUnreadable (pile_of input.now))) }
+{
+    let pile = read_pile(alloc, input)?;
+    let settled = settle(alloc, &pile)?;
+    match form {
+        Form::Text => settle_text(alloc, &settled),
+        Form::Pile => pile_text(alloc, settled.pile()),
+        Form::Graymap => pgm_text(alloc, settled.pile()),
+    }
+}
 
 // A stable pile, as text or as a picture.
 fn pile_or_graymap(alloc: Global, pile: &Pile, pgm: bool) -> Result<Vec<u8>, DeskFault>
