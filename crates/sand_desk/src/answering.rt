@@ -4,14 +4,43 @@ ghost use Rattle.std.specs.Prelude.{◌≡◌, ◌≢◌, ◌<◌, IfErr, OnOk, 
 ghost use Rattle.sand_commands.specs.Faults.{status_of};
 ghost use Rattle.sand_desk.specs.Answering.{IsAnswer, IsNoAnswer};
 ghost use Rattle.sand_desk.specs.Commands.{TellsWords, call_of};
+ghost use Rattle.sand_desk.specs.Helping.{IsPerformed, IsUnperformed};
 
-use crate::helping::run_or_help;
+use crate::commands::run_gated_command;
 use sand_cli::{Asked, Request};
-use sand_commands::{DeskFault, write_explain_help, write_explained, write_version};
+use sand_commands::{
+    DeskFault, show_help, status, write_explain_help, write_explained, write_version,
+};
 use sand_plan::Gate;
 use std::alloc::Global;
 use std::io::{Read, Write};
 use std::thread::Threads;
+
+// Like `run_gated_command`, but shows the help if the words ask for it. No returned fault has status 0.
+fn run_or_help<T: Threads + Sync, G: Gate, R: Read, W: Write>(
+    rt: &T,
+    alloc: Global,
+    gate: &G,
+    words: &[String],
+    reader: &mut R,
+    writer: &mut W,
+) -> Result<(), DeskFault>
+    requires { 0 < length words.now }
+    ensures done { OnOk result (IsPerformed (map string_bytes words.now) (call_of (map string_bytes words.now)
+        (R.remaining reader.old) (R.remaining reader.new) (W.contents writer.old) (W.contents writer.new))) }
+    ensures fault { IfErr result (IsUnperformed (map string_bytes words.now) (call_of (map string_bytes words.now)
+        (R.remaining reader.old) (R.remaining reader.new) (W.contents writer.old) (W.contents writer.new))) }
+    ensures told { IfErr result (TellsWords (map string_bytes words.now)) }
+    ensures status { IfErr result (λ e. status_of e ≢ 0) }
+{
+    let Err(fault) = run_gated_command(rt, alloc, gate, words, reader, writer) else {
+        return Ok(());
+    };
+    if status(&fault) != 0 {
+        return Err(fault);
+    }
+    show_help(alloc, fault, writer)
+}
 
 /// Does what the words ask for. The gate is called as in `run_gated_command`.
 pub fn answer<T: Threads + Sync, G: Gate, R: Read, W: Write>(

@@ -2,7 +2,7 @@
 
 ghost use Rattle.std.specs.Prelude.{ℕ, ◌≡◌, ◌+◌, ◌++◌, List, map, sum, IfOk, IfErr, OnOk};
 ghost use Rattle.sand_shared.specs.Record.{IsOneThreads};
-ghost use Rattle.sand_text.specs.Runs.{journal_lines};
+ghost use Rattle.sand_text.specs.Runs.{epoch_line, journal_lines, lines_from};
 ghost use Rattle.sand_cli.specs.Asked.{IsRun};
 ghost use Rattle.sand_cli.specs.declared.task.Form.TheVariants as forms;
 ghost use Rattle.sand_plan.specs.Plans.{all_drops};
@@ -18,7 +18,7 @@ use sand_lab::{Album, Entry, LabFault, Plan, Report, run};
 use sand_model::Pile;
 use sand_plan::{Gate, Wish};
 use sand_shared::Record;
-use sand_text::{Sums, push_journal_head, push_journal_line};
+use sand_text::{Sums, push_epoch, push_journal_line, push_odometer, push_pile, push_total};
 use std::alloc::{AllocError, Global};
 use std::thread::Threads;
 
@@ -33,14 +33,14 @@ fn sums_of(record_of: &Record) -> Sums
     }
 }
 
-fn sums_of_all(alloc: Global, records: &[Record]) -> Result<Vec<Sums>, AllocError>
-    ensures { IfOk result (λ v. v.items ≡ map sums_of records.now) }
+// Appends a line for each epoch, by number.
+fn push_epochs(text: &mut Vec<u8>, records: &[Record]) -> Result<(), AllocError>
+    ensures { OnOk result (text.new.items ≡ text.old.items ++ lines_from epoch_line 0 (map sums_of records.now)) }
 {
-    let mut sums = Vec::with_capacity(alloc, records.len())?;
-    for closed in records {
-        sums.push_reserved(sums_of(closed));
+    for (epoch, closed) in records.iter().enumerate() {
+        push_epoch(text, epoch as u64, sums_of(closed))?;
     }
-    Ok(sums)
+    Ok(())
 }
 
 /// The text of a report: the sums of each epoch and of all epochs, the last pile, and how often each site toppled.
@@ -48,14 +48,13 @@ pub fn lab_text(alloc: Global, report: &Report) -> Result<Vec<u8>, DeskFault>
     ensures { IsText result (lab_text_of_report report.now) }
 {
     let total = report.total();
-    let epochs = sums_of_all(alloc, report.records())?;
-    Ok(sand_text::lab_text(
-        alloc,
-        epochs.as_slice(),
-        sums_of(total),
-        total.pile(),
-        total.odometers(),
-    )?)
+    let mut text = Vec::new(alloc);
+    text.extend_from_slice(b"epoch drops topplings lost grains\n")?;
+    push_epochs(&mut text, report.records())?;
+    push_total(&mut text, sums_of(total))?;
+    push_pile(&mut text, total.pile())?;
+    push_odometer(&mut text, total.pile().shape(), total.odometers())?;
+    Ok(text)
 }
 
 // Appends a line for each drop of an epoch, by number.
@@ -72,7 +71,7 @@ fn push_journals(text: &mut Vec<u8>, report: &Report) -> Result<(), AllocError>
     ensures { OnOk result (text.new.items ≡ text.old.items ++ journal_text_of_report report.now) }
 {
     let epochs = report.records().len() as u32;
-    push_journal_head(text)?;
+    text.extend_from_slice(b"journal\n")?;
     for epoch in 0..epochs {
         push_journal(text, epoch, report.journal(epoch))?;
     }

@@ -1,19 +1,17 @@
 //! The program's commands: from words and bytes to bytes.
 //!
 //! `commands` gets the task from `sand_cli`, and `sand_commands` reads the input and does the task; only a run of the
-//! laboratory is done here, by `laboratory`. `helping` shows the help that words may ask for, and `answering` does
-//! whatever the program's words ask for.
+//! laboratory is done here, by `laboratory`. `answering` shows the help that words may ask for, and does whatever else
+//! the program's words ask for.
 #![tactic(auto)]
 
 mod answering;
 mod commands;
-mod helping;
 mod laboratory;
 pub mod laws;
 
 pub use answering::answer;
 pub use commands::{run_command, run_gated_command};
-pub use helping::run_or_help;
 pub use laboratory::{journal_text, lab_text};
 pub use sand_commands::{
     DeskFault, burn_text, pgm_text, pile_text, read_drops, read_pile, read_two, report_fault,

@@ -4,7 +4,7 @@ ghost use Rattle.std.specs.Prelude.{◌≡◌, ℕ, ◌++◌, ◌≤◌, length,
 ghost use Rattle.sand_text.specs.Runs.{journal_lines, journal_text_of};
 ghost use Rattle.sand_desk_tests.specs.declared.journal.Entry.{Entry};
 
-use sand_text::{push_journal_head, push_journal_line};
+use sand_text::push_journal_line;
 use std::alloc::{AllocError, Global};
 use std::test::Fail;
 
@@ -33,7 +33,7 @@ pub fn journal_of(alloc: Global, epochs: &[&[Entry]]) -> Result<Vec<u8>, AllocEr
         ≡ journal_text_of (map (λ entries. map (λ (e : Entry). (e.dropper, e.site)) entries.now) epochs.now)) }
 {
     let mut text = Vec::new(alloc);
-    push_journal_head(&mut text)?;
+    text.extend_from_slice(b"journal\n")?;
     for (epoch, entries) in epochs.iter().enumerate() {
         push_epoch(&mut text, epoch as u32, entries)?;
     }

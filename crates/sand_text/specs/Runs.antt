@@ -1,5 +1,5 @@
 -- The unique text of a run of the laboratory, and of its journal.
-use Rattle.std.specs.Prelude.{ℕ, ◌+◌, List, [], ◌∷◌, ◌++◌, decimal, codes}
+use Rattle.std.specs.Prelude.{ℕ, ◌+◌, List, [], ◌∷◌, ◌++◌, codes}
 use Rattle.sand_model.specs.Piles.{PileView}
 use Rattle.sand_text.specs.declared.runs.Sums.{Sums}
 use Rattle.sand_text.specs.Texts.{row_text, text_of, odometer_text}
@@ -9,16 +9,17 @@ unfoldable pub lines_from : {A : Type 0} → (ℕ → A → List ℕ) → ℕ �
 lines_from line n [] = []
 lines_from line n (x ∷ xs) = line n x ++ lines_from line (n + 1) xs
 
-abbrev pub sums_text : Sums → List ℕ
-sums_text s = row_text (s.drops ∷ s.topplings ∷ s.lost ∷ s.grains ∷ [])
+-- the numbers of a line of sums
+abbrev pub fields_of : Sums → List ℕ
+fields_of s = s.drops ∷ s.topplings ∷ s.lost ∷ s.grains ∷ []
 
 -- the line of an epoch: its number and its sums
 abbrev pub epoch_line : ℕ → Sums → List ℕ
-epoch_line n s = decimal n ++ codes " " ++ sums_text s
+epoch_line n s = row_text (n ∷ fields_of s)
 
 -- the line of a whole run
 abbrev pub total_line : Sums → List ℕ
-total_line s = codes "total " ++ sums_text s
+total_line s = codes "total " ++ row_text (fields_of s)
 
 -- a line that names the columns, a line for each epoch and one for all, the pile, and how often each site toppled
 abbrev pub lab_text_of : List Sums → Sums → PileView → List ℕ → List ℕ

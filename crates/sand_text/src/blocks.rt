@@ -1,21 +1,22 @@
 //! A text that is written in blocks while it is made, so memory does not grow with its length.
 //!
-//! Finished parts wait in a buffer of fixed size. Before a part is added, a buffer of `BLOCK` bytes or more goes to the
-//! writer. So only whole parts are sent, and once the buffer is allocated only the writer can fail.
+//! Finished parts wait in a buffer of fixed size, which has room for a pile. Before a part is added, a buffer of `BLOCK`
+//! bytes or more goes to the writer. So only whole parts are sent, and once the buffer is allocated only the writer can
+//! fail.
 
-ghost use Rattle.std.specs.Prelude.{◌≡◌, ◌+◌, ◌<◌, ◌≤◌, [], length, IfOk, IfErr, OnOk};
+ghost use Rattle.std.specs.Prelude.{◌≡◌, ◌<◌, ◌≤◌, [], length, IfOk, IfErr, OnOk};
 ghost use Rattle.std.specs.Io.KnownBytes.{Appends};
-ghost use Rattle.sand_model.specs.Grid.{sites};
 ghost use Rattle.sand_text.specs.Blocks.{BreaksIn, GrowsBy};
 ghost use Rattle.sand_text.specs.Tables.{entry_text};
-ghost use Rattle.sand_text.specs.Texts.{row_text, shape_text, sites_text, sum_line, text_of};
+ghost use Rattle.sand_text.specs.Texts.{sum_line, text_of};
 
 use crate::fault::StreamFault;
 use crate::flow::write_text;
+use crate::piles::push_pile;
+use crate::rows::{push_row, push_sum};
 use crate::tables::fields_of;
-use crate::{piles, rows};
 use sand_fronts::Avalanche;
-use sand_model::{Pile, Shape};
+use sand_model::Pile;
 use std::alloc::{AllocError, Global};
 use std::io::Write;
 use std::marker::Model;
@@ -23,8 +24,8 @@ use std::marker::Model;
 /// Waiting bytes are written once there are this many. The buffer has room for one more part.
 const BLOCK: usize = 65_536;
 
-/// The most bytes of a part: a row of 256 numbers, each with one byte after it.
-const PART: usize = 5_376;
+/// The most bytes of a part: a pile's two sides, 65,536 heights, and what follows each.
+const PART: usize = 1_376_300;
 
 /// The end of a text, which waits to be written.
 #[derive(Drop)]
@@ -41,7 +42,7 @@ impl Model for Blocks {
 
     ghost view = { λ b. record { bytes = b.waiting.items; sent = b.sent } };
 
-    ghost invariant = { λ b. 70912 ≤ vec_capacity b.waiting };
+    ghost invariant = { λ b. 1441836 ≤ vec_capacity b.waiting };
 }
 
 impl Blocks {
@@ -85,37 +86,8 @@ impl Blocks {
         self.send(writer)
     }
 
-    /// Adds a part. If the writer fails, returns Write with the number of bytes of the text that it took.
-    pub fn push<W: Write>(&mut self, writer: &mut W, part: &[u8]) -> Result<(), StreamFault>
-        requires { length part.now ≤ 5376 }
-        ensures ok { OnOk result (GrowsBy (W.contents writer.old) (W.contents writer.new) self.old self.new part.now) }
-        ensures bound { OnOk result (length self.new.bytes < 70912) }
-        ensures err { IfErr result (BreaksIn (W.contents writer.old) (W.contents writer.new) self.old part.now) }
-    {
-        self.make_room(writer)?;
-        let Ok(()) = self.waiting.extend_from_slice(part) else {
-            unreachable!()
-        };
-        Ok(())
-    }
-
-    // Adds a line of numbers, separated by spaces.
-    fn push_row<W: Write>(&mut self, writer: &mut W, numbers: &[u64]) -> Result<(), StreamFault>
-        requires { length numbers.now ≤ 256 }
-        ensures ok { OnOk result (GrowsBy (W.contents writer.old)
-            (W.contents writer.new) self.old self.new (row_text numbers.now)) }
-        ensures bound { OnOk result (length self.new.bytes < 70912) }
-        ensures err { IfErr result
-            (BreaksIn (W.contents writer.old) (W.contents writer.new) self.old (row_text numbers.now)) }
-    {
-        self.make_room(writer)?;
-        let Ok(()) = rows::push_row(&mut self.waiting, numbers) else {
-            unreachable!()
-        };
-        Ok(())
-    }
-
-    /// Adds the line of a drop: its number, and its avalanche.
+    /// Adds the line of a drop: its number, and its avalanche. If the writer fails, returns Write with the number of
+    /// bytes of the text that it took.
     pub fn push_entry<W: Write>(
         &mut self,
         writer: &mut W,
@@ -128,39 +100,8 @@ impl Blocks {
         ensures err { IfErr result
             (BreaksIn (W.contents writer.old) (W.contents writer.new) self.old (entry_text (number, avalanche))) }
     {
-        self.push_row(writer, &fields_of(number, avalanche))
-    }
-
-    /// Adds a number for each site, by grid rows.
-    pub fn push_sites<W: Write>(
-        &mut self,
-        writer: &mut W,
-        shape: Shape,
-        numbers: &[u64],
-    ) -> Result<(), StreamFault>
-        requires { length numbers.now ≡ sites shape }
-        ensures ok { OnOk result (GrowsBy (W.contents writer.old)
-            (W.contents writer.new) self.old self.new (sites_text shape numbers.now)) }
-        ensures err { IfErr result
-            (BreaksIn (W.contents writer.old) (W.contents writer.new) self.old (sites_text shape numbers.now)) }
-    {
-        let mut rest = numbers;
-        'rows: for _ in 0..shape.height() {
-            let (row, after) = rest.split_at(shape.width());
-            self.push_row(writer, row)?;
-            rest = after;
-        }
-        Ok(())
-    }
-
-    fn push_shape<W: Write>(&mut self, writer: &mut W, shape: Shape) -> Result<(), StreamFault>
-        ensures ok { OnOk result (GrowsBy (W.contents writer.old)
-            (W.contents writer.new) self.old self.new (shape_text shape)) }
-        ensures err { IfErr result
-            (BreaksIn (W.contents writer.old) (W.contents writer.new) self.old (shape_text shape)) }
-    {
         self.make_room(writer)?;
-        let Ok(()) = piles::push_shape(&mut self.waiting, shape) else {
+        let Ok(()) = push_row(&mut self.waiting, &fields_of(number, avalanche)) else {
             unreachable!()
         };
         Ok(())
@@ -173,8 +114,11 @@ impl Blocks {
         ensures err { IfErr result
             (BreaksIn (W.contents writer.old) (W.contents writer.new) self.old (text_of pile.now)) }
     {
-        self.push_shape(writer, pile.shape())?;
-        self.push_sites(writer, pile.shape(), pile.heights())
+        self.make_room(writer)?;
+        let Ok(()) = push_pile(&mut self.waiting, pile) else {
+            unreachable!()
+        };
+        Ok(())
     }
 
     /// Adds a line with the name and the value of a sum.
@@ -191,7 +135,7 @@ impl Blocks {
             (BreaksIn (W.contents writer.old) (W.contents writer.new) self.old (sum_line name.now sum)) }
     {
         self.make_room(writer)?;
-        let Ok(()) = rows::push_sum(&mut self.waiting, name, sum) else {
+        let Ok(()) = push_sum(&mut self.waiting, name, sum) else {
             unreachable!()
         };
         Ok(())

@@ -1,6 +1,8 @@
 //! Why a text could not be read or a stream ended early, and the number of each fault.
 
 ghost use Rattle.std.specs.Prelude.{◌≡◌};
+ghost use Rattle.sand_text.specs.Faults.{read_fault_number, stream_fault_number, text_fault_number};
+ghost use Rattle.sand_text.specs.Reading.{of_shape};
 ghost use Rattle.sand_text.specs.declared.fault.ReadFault.TheVariants as read_faults;
 ghost use Rattle.sand_text.specs.declared.fault.StreamFault.TheVariants as stream_faults;
 
@@ -55,8 +57,6 @@ pub enum StreamFault {
 }
 
 impl TextFault {
-    ghost use Rattle.sand_text.specs.Faults.{text_fault_number};
-
     pub fn number(self) -> u32
         ensures { result ≡ text_fault_number self }
     {
@@ -73,8 +73,6 @@ impl TextFault {
 }
 
 impl ReadFault {
-    ghost use Rattle.sand_text.specs.Faults.{read_fault_number};
-
     pub fn number(self) -> u32
         ensures { result ≡ read_fault_number self }
     {
@@ -86,8 +84,6 @@ impl ReadFault {
 }
 
 impl StreamFault {
-    ghost use Rattle.sand_text.specs.Faults.{stream_fault_number};
-
     pub fn number(self) -> u32
         ensures { result ≡ stream_fault_number self }
     {
@@ -101,8 +97,6 @@ impl StreamFault {
 }
 
 impl From<ShapeFault> for TextFault {
-    ghost use Rattle.sand_text.specs.Reading.{of_shape};
-
     ghost from_gives = { λ fault e. e ≡ of_shape fault };
 
     fn from(fault: ShapeFault) -> TextFault {

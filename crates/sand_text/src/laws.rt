@@ -1,10 +1,4 @@
 //! The laws of a pile's text, as contracts of functions that do nothing.
-//!
-//! **Tokens and bytes.** A text is read as tokens separated by white space. In terms of bytes, the first strange byte
-//! is the first that is neither a digit, nor white space, nor an allowed letter; if there is none, the numbers are the
-//! longest runs of digits.
-//!
-//! **Round trip.** The written text of a pile is read as the same pile.
 
 ghost use Rattle.sand_text.specs.Laws.{StrangeByte, NumbersAreRuns, ReadAgain};
 

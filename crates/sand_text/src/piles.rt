@@ -1,9 +1,9 @@
-//! Reading and writing a pile.
+//! Reading and writing a pile, and reading the sites of the grains to be dropped on it.
 
 ghost use Rattle.std.specs.Prelude.{◌≡◌, ◌+◌, ◌≤◌, ◌++◌, length, sum, vec_len, vec_capacity, IsOk, OnOk, IfOk, IfErr};
 ghost use Rattle.sand_model.specs.Grid.{sites};
 ghost use Rattle.sand_text.specs.Tokens.{tokens, numbers};
-ghost use Rattle.sand_text.specs.Reading.{Reads, pile_of, heights_on};
+ghost use Rattle.sand_text.specs.Reading.{Reads, ReadsAs, drops_of, pile_of, heights_on, behind_heights};
 ghost use Rattle.sand_text.specs.Texts.{shape_text, text_of, odometer_text};
 ghost use Rattle.sand_model.specs.Piles.{most_grains};
 
@@ -37,12 +37,43 @@ pub fn read_pile(alloc: Global, text: &[u8]) -> Result<Pile, ReadFault>
     Ok(Pile::from_counted(shape, heights, grains))
 }
 
+// The shape and the grains of the pile, and the number of drops after it, if the text has no fault.
+fn shape_before_drops(text: &[u8]) -> Result<(Shape, u64, usize), TextFault>
+    ensures drops { IfOk result (λ (g, _, _).
+        drops_of text.now ≡ Ok (record { grid = g; heights = heights_on g text.now }, behind_heights g text.now)) }
+    ensures enough { IfOk result (λ (g, _, _). 2 + sites g ≤ length (numbers (tokens text.now))) }
+    ensures len { IfOk result (λ (g, _, _). length (heights_on g text.now) ≡ sites g) }
+    ensures grains { IfOk result (λ (g, grains, _). (grains ≡ sum (heights_on g text.now)) × (grains ≤ most_grains)) }
+    ensures count { IfOk result (λ (g, _, count). length (behind_heights g text.now) ≡ count) }
+    ensures err { IfErr result (λ e. drops_of text.now ≡ Err e) }
+{
+    let survey = plain_survey(text)?;
+    let shape = survey.shape(false, text.len())?;
+    match survey.no_site {
+        Some(index) => Err(TextFault::NoSite(index)),
+        None => Ok((shape, survey.grains, survey.count - 2 - shape.sites())),
+    }
+}
+
+/// The pile in a text and the sites of the drops after it, or its first fault. Every fault except out of memory is
+/// found before anything is allocated.
+pub fn read_drops(alloc: Global, text: &[u8]) -> Result<(Pile, Vec<usize>), ReadFault>
+    ensures { ReadsAs (λ (pile, drops). (pile, drops.items)) result (drops_of text.now) }
+{
+    let (shape, grains, count) = shape_before_drops(text)?;
+    let mut numbers = Numbers::new(text);
+    let heights = numbers.next_heights(alloc, shape.sites())?;
+    let drops = numbers.sites(alloc, count)?;
+    Ok((Pile::from_counted(shape, heights, grains), drops))
+}
+
 /// Writes the first line of a pile's text.
 pub(crate) fn push_shape(text: &mut Vec<u8>, shape: Shape) -> Result<(), AllocError>
     ensures written { OnOk result (text.new.items ≡ text.old.items ++ shape_text shape) }
 
     // It succeeds if there is room for two numbers and what follows each.
     ensures room { vec_len text.old + 44 ≤ vec_capacity text.old → IsOk result }
+    ensures bound { vec_len text.new ≤ vec_len text.old + 44 }
     ensures capacity { vec_capacity text.old ≤ vec_capacity text.new }
 {
     push_number(text, shape.width() as u64)?;
@@ -55,8 +86,13 @@ pub(crate) fn push_shape(text: &mut Vec<u8>, shape: Shape) -> Result<(), AllocEr
     Ok(())
 }
 
-pub(crate) fn push_pile(text: &mut Vec<u8>, pile: &Pile) -> Result<(), AllocError>
-    ensures { OnOk result (text.new.items ≡ text.old.items ++ text_of pile.now) }
+/// Writes the text of a pile.
+pub fn push_pile(text: &mut Vec<u8>, pile: &Pile) -> Result<(), AllocError>
+    ensures written { OnOk result (text.new.items ≡ text.old.items ++ text_of pile.now) }
+
+    // It succeeds if there is room for two sides, 65,536 heights, and what follows each.
+    ensures room { vec_len text.old + 1376300 ≤ vec_capacity text.old → IsOk result }
+    ensures capacity { vec_capacity text.old ≤ vec_capacity text.new }
 {
     push_shape(text, pile.shape())?;
     push_sites(text, pile.shape(), pile.heights())

@@ -65,7 +65,11 @@ pub(crate) fn push_sites(
     numbers: &[u64],
 ) -> Result<(), AllocError>
     requires { length numbers.now ≡ sites shape }
-    ensures { OnOk result (text.new.items ≡ text.old.items ++ sites_text shape numbers.now) }
+    ensures written { OnOk result (text.new.items ≡ text.old.items ++ sites_text shape numbers.now) }
+
+    // It succeeds if there is room for all numbers and a byte after each.
+    ensures room { vec_len text.old + 21 * sites shape ≤ vec_capacity text.old → IsOk result }
+    ensures capacity { vec_capacity text.old ≤ vec_capacity text.new }
 {
     let mut rest = numbers;
     'rows: for _ in 0..shape.height() {

@@ -10,7 +10,9 @@ abbrev blank : SheetView
 blank = record { journal = []; tallies = []; swept = []; place = 0; shown = None }
 
 pub loop-epoch-init : goal.loop-epoch-init
-loop-epoch-init c = c.in_ok-push_journal_head.ensures ∙ no_line (λ n s. journal_lines n (drops_of s))
+loop-epoch-init c =
+    let head = rw c.in_ok-extend_from_slice.was at c.extend_from_slice.ensures.items in
+    head ∙ no_line (λ n s. journal_lines n (drops_of s))
     c.args.report.now.sheets (c.args.text.now.items ++ codes "journal\n")
 
 pub loop-epoch-preserved : goal.loop-epoch-preserved

@@ -9,7 +9,8 @@ drops_of entries = map (λ (e : Entry). (e.dropper, e.site)) entries.now
 
 pub loop-epoch-init : goal.loop-epoch-init
 loop-epoch-init c =
-    let head = c.in_ok-push_journal_head.ensures ∙ ap (λ text. text ++ codes "journal\n") c.new-text.ensures.items in
+    let pushed = rw c.in_ok-extend_from_slice.was at c.extend_from_slice.ensures.items in
+    let head = pushed ∙ ap (λ text. text ++ codes "journal\n") c.new-text.ensures.items in
     head ∙ no_line (λ n entries. journal_lines n (drops_of entries)) c.args.epochs.now (codes "journal\n")
 
 pub loop-epoch-preserved : goal.loop-epoch-preserved

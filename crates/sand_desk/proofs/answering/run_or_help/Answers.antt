@@ -1,6 +1,6 @@
 use Rattle.sand_desk.proofs.Common.{◌≡◌, ◌∙◌, map, string_bytes, sym, IfErr-weaker, status_of}
 use Rattle.sand_desk.proofs.Helped.{unhelped}
-use Rattle.sand_desk.proofs.helping.run_or_help.Goals as goal
+use Rattle.sand_desk.proofs.answering.run_or_help.Goals as goal
 
 pub returns-clause-fault : goal.returns-clause-fault
 returns-clause-fault g c =

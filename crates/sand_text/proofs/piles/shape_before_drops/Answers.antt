@@ -2,7 +2,7 @@ use Rattle.sand_text.proofs.Common.{arith, inl, refl, err_from_is_err_and, token
 use Rattle.sand_text.specs.Reading.{front_of, drops_of}
 use Rattle.sand_text.proofs.Shapes.{count_at_end}
 use Rattle.sand_text.proofs.Readings.{no_site_is, drop_count, one_each}
-use Rattle.sand_text.proofs.drops.shape_of.Goals as goal
+use Rattle.sand_text.proofs.piles.shape_before_drops.Goals as goal
 
 pub returns-in_err-survey-clause-err : goal.returns-in_err-survey-clause-err
 unfolding drops_of front_of
