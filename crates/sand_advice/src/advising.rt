@@ -2,7 +2,7 @@
 //!
 //! It examines the bytes of the input again. No promise of a command depends on any of this.
 
-use crate::pushing::{push_byte, push_grouped, push_place, push_sides};
+use crate::pushing::{push_grouped, push_place, push_sides};
 use crate::rejected::{Rejected, Surveyed};
 use crate::strange;
 use sand_cli::{Explained, fault_numbered};
@@ -13,6 +13,8 @@ use std::alloc::{AllocError, Global};
 const SIDES: &str = "must be from 1 to 256";
 
 const CYLINDER: &str = "must be at least 3 on a cylinder";
+
+const HIGH: &str = "must be at most 3";
 
 const NO_SITE: &str = "the grid has no such site";
 
@@ -28,33 +30,21 @@ fn push_end(text: &mut String, input: &[u8], pile: &Survey, name: &str) -> Resul
     write!(text, "the input ends before the {side} of {name}\n")
 }
 
-// A byte that cannot be in the text of a pile.
+// A byte that cannot be in the text of a pile: `'x'`, or `byte 255` if it is not a letter, digit or punctuation mark.
 fn push_strange(text: &mut String, input: &[u8], place: usize, byte: u8) -> Result<(), AllocError> {
     push_place(text, input, place)?;
-    push_byte(text, byte)?;
+    if byte.is_ascii_graphic() {
+        let letter = char::from(byte);
+        write!(text, "'{letter}'")?;
+    } else {
+        write!(text, "byte {byte}")?;
+    }
     text.push_str(" is neither a digit nor white space\n")
 }
 
 fn push_large(text: &mut String, input: &[u8], place: usize) -> Result<(), AllocError> {
     push_place(text, input, place)?;
-    text.push_str("the number is over ")?;
-    push_grouped(text, GRAIN_LIMIT)?;
-    text.push_str("\n")
-}
-
-// A number that is at fault, with its offset and its value.
-fn push_number(
-    text: &mut String,
-    input: &[u8],
-    number: Option<(usize, u64)>,
-    what: &str,
-    limit: &str,
-) -> Result<(), AllocError> {
-    let Some((start, value)) = number else {
-        return Ok(());
-    };
-    push_place(text, input, start)?;
-    write!(text, "{what} is {value}, but {limit}\n")
+    text.push_str("the number is over 1,099,511,627,775\n")
 }
 
 fn push_length(text: &mut String, pile: &Survey, name: &str) -> Result<(), AllocError> {
@@ -71,15 +61,11 @@ fn push_length(text: &mut String, pile: &Survey, name: &str) -> Result<(), Alloc
 // More grains than the limit, in a pile or with all drops.
 fn push_grains(text: &mut String, pile: &Survey, name: &str) -> Result<(), AllocError> {
     if pile.grains > GRAIN_LIMIT {
-        write!(text, "{name} has more than ")?;
-        push_grouped(text, GRAIN_LIMIT)?;
-        text.push_str(" grains\n")
+        write!(text, "{name} has more than 1,099,511,627,775 grains\n")
     } else {
         write!(text, "{name} has ")?;
         push_grouped(text, pile.grains)?;
-        text.push_str(" grains; at most ")?;
-        push_grouped(text, GRAIN_LIMIT)?;
-        text.push_str(" are allowed, including all drops\n")
+        text.push_str(" grains; at most 1,099,511,627,775 are allowed, including all drops\n")
     }
 }
 
@@ -103,29 +89,28 @@ fn push_found_in(
     let Rejected { input, place, .. } = *rejected;
     let survey = &last.survey;
     let drop_index = survey.sites().saturating_add(2).saturating_add(place);
-    match fault {
-        "Text" => push_end(text, input, survey, name),
+    let (number, what, limit) = match fault {
+        "Text" => return push_end(text, input, survey, name),
+        "Length" => return push_length(text, survey, name),
+        "TooManyGrains" | "Full" => return push_grains(text, survey, name),
+        "Shapes" => return push_shapes(text, &first.survey, survey),
         "Side" if (1..=SIDE_LIMIT as u64).contains(&survey.width) => {
-            push_number(text, input, last.number(1), "the height", SIDES)
+            (last.number(1), "the height", SIDES)
         }
-        "Side" => push_number(text, input, last.number(0), "the width", SIDES),
-        "Narrow" => push_number(text, input, last.number(0), "the width", CYLINDER),
-        "NoSite" => push_number(text, input, last.number(drop_index), "the site", NO_SITE),
+        "Side" => (last.number(0), "the width", SIDES),
+        "Narrow" => (last.number(0), "the width", CYLINDER),
+        "NoSite" => (last.number(drop_index), "the site", NO_SITE),
         "Unstable" => {
             let high = first.unstable().or(last.unstable());
-            push_number(
-                text,
-                input,
-                high,
-                "the number of grains",
-                "must be at most 3",
-            )
+            (high, "the number of grains", HIGH)
         }
-        "Length" => push_length(text, survey, name),
-        "TooManyGrains" | "Full" => push_grains(text, survey, name),
-        "Shapes" => push_shapes(text, &first.survey, survey),
-        _ => Ok(()),
-    }
+        _ => return Ok(()),
+    };
+    let Some((start, value)) = number else {
+        return Ok(());
+    };
+    push_place(text, input, start)?;
+    write!(text, "{what} is {value}, but {limit}\n")
 }
 
 // What was found in the input, if the fault with this name is in the input.
@@ -143,12 +128,8 @@ fn push_found(text: &mut String, rejected: &Rejected<'_>, fault: &str) -> Result
 
 // What to do about a fault, given the input.
 fn remedy(rejected: &Rejected<'_>, fault: &Explained) -> &'static str {
-    let Rejected {
-        command,
-        input,
-        place,
-    } = *rejected;
-    match (fault.name, command) {
+    let Rejected { input, place, .. } = *rejected;
+    match (fault.name, rejected.command) {
         ("Text", "add") if place == input.len() => TWO_PILES,
         ("Text", _) if place == input.len() => ONE_PILE,
         ("Text", _) => strange::meaning(input, place).unwrap_or(fault.remedy),
@@ -180,10 +161,8 @@ pub fn advice(
         what_to_do = remedy(&rejected, fault);
     }
     if text.is_empty() {
-        text.push_str(fault.meaning)?;
-        text.push_str("\n")?;
+        write!(text, "{}\n", fault.meaning)?;
     }
-    text.push_str(what_to_do)?;
-    text.push_str("\n")?;
+    write!(text, "{what_to_do}\n")?;
     Ok(text)
 }

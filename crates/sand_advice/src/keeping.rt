@@ -19,10 +19,7 @@ impl<R> Kept<R> {
 
     /// What was read, if the copy is complete.
     pub fn copy(&self) -> Option<&[u8]> {
-        match &self.copy {
-            Some(copy) => Some(copy.as_slice()),
-            None => None,
-        }
+        self.copy.as_ref().map(|copy| copy.as_slice())
     }
 }
 

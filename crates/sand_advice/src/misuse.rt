@@ -31,10 +31,9 @@ fn is_plain(word: &str) -> bool {
 
 // Whether the word is an option that takes the next word as its value.
 fn awaits_value(word: &str) -> bool {
-    match word.strip_prefix("--") {
-        Some(name) => !name.contains('=') && !is_flag(name) && !matches!(name, "help" | "version"),
-        None => false,
-    }
+    word.strip_prefix("--").is_some_and(|name| {
+        !name.contains('=') && !is_flag(name) && !matches!(name, "help" | "version")
+    })
 }
 
 // The mistake in a value, if there is one. For an empty value clap's message is enough.
@@ -48,18 +47,12 @@ fn mistake_in_value(value: &str) -> Option<Mistake<'_>> {
 
 // The mistake in a word that follows another word.
 fn mistake_in<'a>(before: &str, word: &'a str) -> Option<Mistake<'a>> {
-    if awaits_value(before) {
-        mistake_in_value(word)
-    } else if let Some((option, value)) = word.split_once('=') {
-        if awaits_value(option) {
-            mistake_in_value(value)
-        } else {
-            None
-        }
-    } else if word.starts_with('-') || is_whole(word) {
-        None
-    } else {
-        Some(Mistake::Stray(word))
+    match word.split_once('=') {
+        _ if awaits_value(before) => mistake_in_value(word),
+        Some((option, value)) if awaits_value(option) => mistake_in_value(value),
+        Some(_) => None,
+        None if word.starts_with('-') || is_whole(word) => None,
+        None => Some(Mistake::Stray(word)),
     }
 }
 
@@ -123,14 +116,12 @@ fn is_file(word: &str) -> bool {
 /// out.
 pub fn tip(alloc: Global, words: &[String]) -> Result<String, AllocError> {
     let mut text = String::new(alloc);
-    if let [_, after @ ..] = words {
-        if let Some(command) = after.first() {
-            if is_file(command.as_str()) {
-                push_reading(&mut text, "settle", command.as_str())?;
-            } else {
-                push_tip(&mut text, command.as_str(), after)?;
-            }
+    match words {
+        [_, file, ..] if is_file(file.as_str()) => {
+            push_reading(&mut text, "settle", file.as_str())?;
         }
+        [_, command, ..] => push_tip(&mut text, command.as_str(), &words[1..])?,
+        _ => (),
     }
     Ok(text)
 }

@@ -1,4 +1,4 @@
-//! Numbers, bytes and positions as they are written in a sentence.
+//! Numbers and positions as they are written in a sentence.
 
 use sand_model::Edge;
 use sand_text::{Survey, column, line};
@@ -21,16 +21,6 @@ pub(crate) fn push_grouped(text: &mut String, number: u64) -> Result<(), AllocEr
     push_grouped(text, thousands)?;
     let rest = number % 1000;
     write!(text, ",{rest:03}")
-}
-
-/// Appends a byte: `'x'`, or `byte 255` if it is not a letter, digit or punctuation mark.
-pub(crate) fn push_byte(text: &mut String, byte: u8) -> Result<(), AllocError> {
-    if byte.is_ascii_graphic() {
-        let letter = char::from(byte);
-        write!(text, "'{letter}'")
-    } else {
-        write!(text, "byte {byte}")
-    }
 }
 
 /// Appends the sides of a pile: `3 by 2`, and whether it is a cylinder.
