@@ -60,21 +60,6 @@ fn add_bits(sums: &mut [i64], bits: u16, number: i64) {
     }
 }
 
-// Writes a number at the columns of a set.
-#[inline(always)]
-fn put_bits(list: &mut [u32], bits: u16, number: u32) {
-    let mut rest = bits;
-    for _ in 0..COLUMNS {
-        if rest == 0 {
-            break;
-        }
-        if let Some(item) = list.get_mut(rest.trailing_zeros() as usize) {
-            *item = number;
-        }
-        rest &= rest.wrapping_sub(1);
-    }
-}
-
 impl Place {
     // The site in the first column of a row.
     #[inline(always)]
@@ -135,18 +120,9 @@ impl Place {
         is_left
     }
 
-    // Writes a turn at the sites of a set of places.
-    fn put_turn(&self, turns: &mut [u32], set: u16x8, turn: u32) {
-        let rows = set.to_array();
-        for row in 0..ROWS {
-            let list = run_mut(turns, self.first_in(row), self.columns);
-            put_bits(list, rows[row], turn);
-        }
-    }
-
     /// Topples what may topple, once each, and returns it. Writes by site the turn at which it does, from the one after
     /// `turn` on.
-    pub(crate) fn visit_in_turns(&mut self, turns: &mut [u32], turn: &mut u32) -> u16x8 {
+    pub(crate) fn visit_in_turns(&mut self, turns: &mut [i64], turn: &mut i64) -> u16x8 {
         let mut toppled = u16x8::splat(0);
         for _ in 0..ROUNDS {
             let due = self.tile.due & !toppled;
@@ -155,10 +131,10 @@ impl Place {
             }
             let [first, second] = self.tile.topple(due, toppled);
             toppled |= due | first | second;
-            self.put_turn(turns, due, turn.wrapping_add(1));
-            self.put_turn(turns, first, turn.wrapping_add(2));
-            self.put_turn(turns, second, turn.wrapping_add(3));
-            *turn = turn.wrapping_add(3);
+            for set in [due, first, second] {
+                *turn = turn.wrapping_add(1);
+                self.add_where(turns, set, *turn);
+            }
         }
         toppled
     }

@@ -105,8 +105,7 @@ impl Tile {
     /// tile.
     #[inline(never)]
     pub(crate) fn visit(&mut self) -> u16x8 {
-        let mut tile = *self;
-        let mut toppled = u16x8::splat(0);
+        let (mut tile, mut toppled) = (*self, u16x8::splat(0));
         for _ in 0..ROUNDS {
             let due = tile.due & !toppled;
             if !is_any(due) {

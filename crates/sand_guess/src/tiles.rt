@@ -49,8 +49,8 @@ pub(crate) struct Tiles {
     head: usize,
     tail: usize,
     /// By site, the turn at which it burns, if that is asked for, and the last turn.
-    turns: Vec<u32>,
-    turn: u32,
+    turns: Vec<i64>,
+    turn: i64,
 }
 
 // Counts a toppling of each place of a set.
@@ -266,8 +266,8 @@ impl Tiles {
         &mut self,
         alloc: Global,
         counts: &mut [i64],
-    ) -> Result<Vec<u32>, AllocError> {
-        self.turns = vec![in alloc; 0u32; counts.len()]?;
+    ) -> Result<Vec<i64>, AllocError> {
+        self.turns = vec![in alloc; 0i64; counts.len()]?;
         self.mark(counts, 0);
         self.burn(counts, 0);
         Ok(mem::replace(&mut self.turns, Vec::new(alloc)))
