@@ -112,27 +112,33 @@ avalanche_of g site v =
       },
     )
 
+-- a drop on the site turns v into `after`, with its avalanche
+record DropsOn (v : DrivenView) (site : ℕ) : Type 0 where
+  after : DrivenView
+  avalanche : Avalanche
+  dropped : Drops v site after
+  is : IsAvalanche (grid_of_driven v) site (topplings_between v.settled after.settled) avalanche
+
 drop_exists : (v : DrivenView) (site : ℕ)
     → length v.settled.odometer ≡ sites (grid_of_driven v)
-    → site < sites (grid_of_driven v) → v.grains < most_grains
-    → (w : DrivenView) × (a : Avalanche) × Drops v site w
-    × IsAvalanche (grid_of_driven v) site (topplings_between v.settled w.settled) a
+    → site < sites (grid_of_driven v) → v.grains < most_grains → DropsOn v site
 drop_exists v site each inside room =
     let r : SettledView = v.settled in
     let done = settles r.pile.grid (λ j. get_or r.pile.heights j 0 + one_at site j) in
     let w : DrivenView = record { settled = poured r done.0 done.1; number = v.number + 1; grains = v.grains + 1 } in
-    let avalanche = avalanche_of r.pile.grid site (topplings_between r w.settled) in (
-      w,
-      avalanche.0,
-      record {
+    let avalanche = avalanche_of r.pile.grid site (topplings_between r w.settled) in
+    record {
+      after = w;
+      avalanche = avalanche.0;
+      dropped = record {
         inside = inside;
         room = room;
         settled = takes_grain r site done.0 done.1 each done.2;
         number = refl;
         grains = refl;
-      },
-      avalanche.1,
-    )
+      };
+      is = avalanche.1;
+    }
 
 -- what some drops, and more after them, lead to
 pub record Continues (start : PileView) (past : List ℕ) (n : ℕ) (v : DrivenView) (more : List ℕ) : Type 0 where
@@ -158,14 +164,14 @@ drops_exist start past (site ∷ more) n v after inside few =
     let first = drop_exists v site (after.settled.odometer_each ∙ sym grid)
     (let l = All-head (λ j. j < sites start.grid) site more inside in omega (arith, l, grid))
     (let grains = after.grains in omega (arith, grains, few)) in
-    let next = after_drop start past site v first.0 first.2 after in
+    let next = after_drop start past site v first.after first.dropped after in
     let longer = length-append past (site ∷ []) in
-    let rest = drops_exist start (past ++ site ∷ []) more (n + 1) first.0 next
+    let rest = drops_exist start (past ++ site ∷ []) more (n + 1) first.after next
     (All-tail (λ j. j < sites start.grid) site more inside) (omega (arith, longer, few)) in
     let P : List ℕ → Type 0 = λ history. IsAfter start history rest.last in
     record {
-      rows = (n, first.1) ∷ rest.rows;
+      rows = (n, first.avalanche) ∷ rest.rows;
       last = rest.last;
-      dropped = (first.0, first.1, rest.rows, first.2, first.3, refl, rest.dropped);
+      dropped = (first.after, first.avalanche, rest.rows, first.dropped, first.is, refl, rest.dropped);
       end = subst P (append_assoc past (site ∷ []) more) rest.end;
     }
