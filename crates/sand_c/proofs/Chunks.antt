@@ -1,13 +1,7 @@
 -- Lists of n numbers each, one after another.
-use Rattle.std.proofs.Common.{◌≡◌, ◌∙◌, ◌+◌, ◌*◌, ◌<◌, ◌≤◌, ℕ, zero, suc, List, [], ◌∷◌, ◌++◌, length, take, drop, get_or, true, false, inl, inr, ap, arith, subst}
-use Rattle.std.specs.Prelude.{Option, Some, None, IfNone, is_some}
-use Rattle.std.specs.List.{sum}
-use Rattle.std.specs.Fork.{slice_chunk}
+use Rattle.sand_c.proofs.Common.{◌≡◌, ◌∙◌, ◌+◌, ◌*◌, ◌<◌, ◌≤◌, ℕ, zero, suc, List, [], ◌∷◌, ◌++◌, length, take, get_or, true, false, inl, inr, ap, arith, subst, Option, Some, None, IfNone, is_some, sum, slice_chunk, cases_lt, and_parts, and_left, and_right, leb-true, lt-leb, length-append, length-drop, length-take-le, take-append-le, drop-append-le, drop_at, take_all, get_or_push, get_or_append_left, most_grains, are_within}
+use Rattle.std.proofs.Common.{drop}
 use Rattle.std.proofs.Math.Nat.{mul-le-mul_right}
-use Rattle.std.proofs.lemmas.Bool.{cases_lt, and_parts, and_left, and_right, leb-true, lt-leb}
-use Rattle.std.proofs.lemmas.List.{length-append, length-drop, length-take-le, take-append-le, drop-append-le, drop_at, take_all, get_or_push, get_or_append_left}
-use Rattle.sand_model.specs.Piles.{most_grains}
-use Rattle.sand_c.specs.Settling.{are_within}
 
 has_room : (n j k : ℕ) → j < k → (j + 1) * n ≤ k * n
 has_room n j k lt = mul-le-mul_right n (omega arith)

@@ -1,15 +1,10 @@
 -- What the exports on integer heights wrote, from the results of the library.
-use Rattle.std.proofs.Common.{ℕ, ◌≡◌, ◌<◌, ◌≤◌, ◌∙◌, sym, ap, subst, arith, List, length, get_or}
-use Rattle.std.specs.Prelude.{ℤ, pos, ◌⊎◌, Result, Ok}
+use Rattle.sand_c.proofs.Common.{ℕ, ◌≡◌, ◌<◌, ◌≤◌, ◌∙◌, sym, ap, subst, arith, List, length, get_or, ℤ, pos, ◌⊎◌, Result, Ok, get_or_default, Grid, sites, PileView, height_of, Fault}
 use Rattle.std.proofs.lemmas.Int.{ints}
-use Rattle.std.proofs.lemmas.List.{get_or_default}
-use Rattle.sand_model.specs.Grid.{Grid, sites}
 use Rattle.sand_model.specs.Integers.{whole}
-use Rattle.sand_model.specs.Piles.{PileView, height_of}
 use Rattle.sand_model.proofs.EquivalenceIsLinear.{equivalent_same}
 use Rattle.sand_group.specs.Classes.{integer_at, IsFiredToRecurrent, IsSuperstableOf}
 use Rattle.sand_group.proofs.SuperstableHeights.{duality, superstable_by_site}
-use Rattle.sand_c.specs.declared.faults.Fault.{Fault}
 use Rattle.sand_c.specs.Classes.{IsRecurrentOfClass, IsSuperstableOfClass}
 
 pub recurrent_written : (meaning : Result Grid Fault) (before after wanted firing z : List ℤ) (c : PileView)

@@ -1,18 +1,12 @@
 -- The sites that burning finds, and how many there are.
-use Rattle.std.proofs.Common.{◌≡◌, ◌<◌, ◌≤◌, ◌+◌, ◌-◌, ℕ, Bool, zero, suc, List, length, refl, sym, subst, ◌∙◌, arith, inl, inr, slice_index}
-use Rattle.std.specs.Prelude.{◌↔◌, Result, Ok, Err}
+use Rattle.sand_c.proofs.Common.{◌≡◌, ◌<◌, ◌≤◌, ◌+◌, ◌-◌, ℕ, Bool, zero, suc, List, length, refl, sym, subst, ◌∙◌, arith, inl, inr, slice_index, ◌↔◌, Result, Ok, Err, cases_lt, take_all, Grid, sites, PileView, height_of, Fault}
 use Rattle.std.specs.List.Sorted.{IsStrictlyIncreasing}
-use Rattle.std.proofs.lemmas.Bool.{cases_lt}
-use Rattle.std.proofs.lemmas.List.{take_all}
-use Rattle.sand_model.specs.Grid.{Grid, sites}
-use Rattle.sand_model.specs.Piles.{PileView, height_of}
 use Rattle.sand_model.specs.Sand.{IsStable, sum_below, occurrences}
 use Rattle.sand_model.proofs.Occurrences.{sum_below-occurrences}
 use Rattle.sand_group.specs.declared.faults.GroupFault.{GroupFault}
 use Rattle.sand_group.specs.declared.faults.GroupFault.TheVariants as group
 use Rattle.sand_group.specs.Recurrence.{IsBurningOrder, IsGreatestForbidden}
 use Rattle.sand_group.proofs.WhyRefused.{stable}
-use Rattle.sand_c.specs.declared.faults.Fault.{Fault}
 use Rattle.sand_c.specs.Burning.{IsFound, IsBurning}
 
 ones : (n : ℕ) (f : ℕ → ℕ) → ((i : ℕ) → i < n → f i ≡ 1) → sum_below n f ≡ n

@@ -1,36 +1,16 @@
 -- A handle is a pointer and what it owns: at null nothing, else a value in a block of its own.
-use Rattle.std.proofs.Common.{◌≡◌, ℕ, List, [], ◌∷◌, ◌++◌, refl, subst}
-use seplogic.Ra.Ura.{Ura}
-use mir.Val.{Val, vstruct, of_list}
+use Rattle.sand_c.proofs.Common.{◌≡◌, ℕ, List, [], ◌∷◌, ◌++◌, refl, subst, Ura, Val, vstruct, of_list, Sym, impl, tnil, dnil, Fml, fsep, SProp, ent, guard, via, fst∗, snd∗, never, guard_i, Logic, sem, Item, Goal, Seq, Step, step, ‵, given, ◌$◌, drop, use1, learn, fsplit, fjoin, fpick, fpack, feq_l, feq_i, fact_use, lone, IsSend, RattleType, Valss, Slot, plain, Ptr, RawPtr, block_ptr, null_ptr, ptr_val, lies_at, in_a_block, Testable, nothing, Shape, Struct, within, Option, None, Some, lies, Bx, c_heap, may_free, owns_at}
 use mir.Raw.{raw as bare}
-use mir.Syntax.{Sym, impl, tnil, dnil}
-use base.Fml.{Fml, fsep}
 use base.Fraction.{full_share}
-use base.Logic.{SProp, ent, guard, via, fst∗, snd∗, never, guard_i}
 use base.Shift.{Keyless}
-use types.Logic.{Logic, sem}
-use types.Kit.{Item, Goal, Seq, Step, step, ‵, given, ◌$◌, drop, use1, learn, fsplit, fjoin, fpick, fpack, feq_l, feq_i}
-use contract.Monad.{fact_use}
-use denote.Memory.{lone}
 use denote.Param.Laws.{Laws}
-use denote.Param.Send.{IsSend}
-use denote.RattleType.{RattleType, Valss}
-use denote.Signature.{Slot, plain}
-use denote.RawPtr.{Ptr, RawPtr, block_ptr, null_ptr, ptr_val, lies_at, in_a_block, Testable}
-use denote.Steps.{nothing}
-use denote.Struct.Struct.{Shape, Struct, within}
-use Rattle.core.specs.declared.option.Option.{Option}
-use Rattle.core.specs.declared.option.Option.TheVariants.{None, Some}
 use Rattle.std.proofs.Crossing as crossing
-use Rattle.std_alloc.proofs.SendSync.{lies}
 use Rattle.std_alloc.specs.Box.Ownership.{box_owns}
 use Rattle.std_heap.proofs.GlobalToken.{dealloc_token-Testable}
-use Rattle.std_alloc.proofs.BoxSteps.Form.{Bx}
 use Rattle.std_heap.specs.declared.Global.{Global}
 use Rattle.std_heap.specs.contracts.Global as Heap
 use Rattle.std_heap.specs.contracts.GlobalAllocator.TheImpl.{ghosts, dict}
 use Rattle.std_heap.proofs.Global.TheLaws as heap
-use Rattle.sand_c.specs.Handles.{c_heap, may_free, owns_at}
 use Rattle.sand_c.specs.contracts.parts.Parts as Parts
 
 -- a value in a block of C's heap

@@ -1,7 +1,5 @@
 -- Why a join of two handles fails before their passes are looked at.
-use Rattle.std.proofs.Common.{◌≡◌, ℕ, inl, inr, refl, sym, subst}
-use Rattle.std.specs.Prelude.{Option, Some, None, IsOk}
-use Rattle.sand_c.specs.Arguments.{IsAnswer}
+use Rattle.sand_c.proofs.Common.{◌≡◌, ℕ, inl, inr, refl, sym, subst, Option, Some, None, IsOk, IsAnswer}
 use Rattle.sand_c.specs.Driving.{held_in}
 use Rattle.sand_c.specs.OwnedPasses.{OwnedPassView}
 use Rattle.sand_c.specs.Passing.{JoinFails, both_in}

@@ -1,29 +1,14 @@
 -- What C lends of a handle to calls that only read: a borrow of what the handle owns becomes it, it can be had twice, and it may be
 -- had on another thread.
-use Rattle.std.proofs.Common.{◌^◌, [], ◌∷◌}
-use seplogic.Ra.Ura.{Ura}
-use base.Fml.{Fml, Lft, Incl, feq, flt, fbor}
+use Rattle.sand_c.proofs.Common.{◌^◌, [], ◌∷◌, Ura, Fml, Lft, Incl, feq, flt, fbor, ent, sep, wand, apply∗, guard, guard_i, Ty, Logic, sem, lfts, ‵, raw, ◌⊛◌, later, await, ◌$◌, !, qed, given, learn, drop, use1, use2, split, flt_i, updating, now, done, fact_use, lone, IsSync, Common, seen, RattleType, Ptr, null_ptr, count_of, lies_at, Testable, Option, None, Some, c_heap, may_free, owns_at, lent_from}
 use base.Fraction.{full_share}
-use base.Logic.{ent, sep, wand, apply∗, guard, guard_i}
-use mir.Syntax.{Ty}
-use types.Logic.{Logic, sem, lfts}
-use types.Kit.{‵, raw, ◌⊛◌, later, await, ◌$◌, !, qed, given, learn, drop, use1, use2, split, flt_i, updating, now, done}
-use contract.Monad.{fact_use}
 use mir.Raw.{raw as bare}
-use denote.Memory.{lone}
 use denote.Param.Laws.{Laws}
-use denote.Param.Send.{IsSync, Common}
-use Rattle.std_alloc.proofs.SendSync.{seen}
-use denote.RattleType.{RattleType}
-use denote.RawPtr.{Ptr, null_ptr, count_of, lies_at, Testable}
 use denote.Shares.{Shares-less}
 use denote.Sharing.{ShrLaws, said}
 use denote.SharingLaws.{said_shr_laws, beside_shr_laws}
 use denote.Struct.Lending.{lent_at, lent_at_shr_laws, Lends, Lends-said, Lends-lies, Lends-both}
-use Rattle.core.specs.declared.option.Option.{Option}
-use Rattle.core.specs.declared.option.Option.TheVariants.{None, Some}
 use Rattle.std_heap.proofs.GlobalToken.{dealloc_token-Testable}
-use Rattle.sand_c.specs.Handles.{c_heap, may_free, owns_at, lent_from}
 
 -- what a reader has can be had twice, and for a shorter time
 pub lent_laws : (R : RattleType) → Laws R → (p : Ptr) (held : Option R.Denot) → ShrLaws (lent_from R p held)

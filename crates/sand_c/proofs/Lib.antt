@@ -1,6 +1,7 @@
 pub mod Answered
 pub mod Chunks
 pub mod ClassSteps
+pub mod Common
 pub mod Found
 pub mod HandleSteps
 pub mod Joins

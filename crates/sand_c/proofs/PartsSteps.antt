@@ -1,14 +1,6 @@
 -- A pointer and the handle of its allocator, as `Box::into_raw_with_allocator` returns them, are one machine value.
-use Rattle.std.proofs.Common.{◌≡◌, ◌∙◌, List, [], ◌∷◌, ◌++◌, ap}
-use seplogic.Ra.Ura.{Ura}
-use mir.Val.{Val, vstruct, of_list}
-use types.Logic.{Logic}
-use types.Kit.{Item, Goal, Seq, ‵, ◌$◌, move, drop, fsplit, fpick, feq_l}
-use denote.RawPtr.{Ptr, RawPtr, ptr_val}
-use denote.Steps.{only}
+use Rattle.sand_c.proofs.Common.{◌≡◌, ◌∙◌, List, [], ◌∷◌, ◌++◌, ap, Ura, Val, vstruct, of_list, Logic, Item, Goal, Seq, ‵, ◌$◌, move, drop, fsplit, fpick, feq_l, Ptr, RawPtr, ptr_val, only, Fits, handle_tells, Bx, P, handle}
 use denote.Struct.Tuple.{Tuple}
-use Rattle.core.proofs.alloc.Calls.{Fits, handle_tells}
-use Rattle.std_alloc.proofs.BoxSteps.Form.{Bx, P, handle}
 
 module _ (E : Bx) {M : Type 1} {𝓤 : Ura M} {𝓛 : Logic 𝓤} {K : Type 0} {Γ : List (Item 𝓤)} {G : Goal 𝓤 𝓛.H} where
   pub pair_out : K → (r : Ptr × E.al.row.Denot) (u : Val)

@@ -1,24 +1,8 @@
 -- Reading through a `&` to a handle.
-use Rattle.std.proofs.Common.{◌≡◌, ◌∙◌, ap, ℕ, ◌+◌, List, [], ◌∷◌, refl, sym}
-use seplogic.Ra.Ura.{Ura}
-use mir.Val.{Val}
-use mir.Syntax.{Sym, ty_ptr}
-use base.Logic.{ent, sep, never_e}
-use base.Fml.{Lft, Share, Fml, ftrue, fat}
-use types.Logic.{Logic, sem}
-use types.Kit.{Goal, Soaks, Step, step, Seq, Item, ‵, ◌⊛◌, ◌$◌, ◌∵◌, !, qed, given, learn, keep, move, drop, use1, split, rewrite, fsplit, feq_l, feq_i, flt_l, done}
-use base.Fml.{flft}
+use Rattle.sand_c.proofs.Common.{◌≡◌, ◌∙◌, ap, ℕ, ◌+◌, List, [], ◌∷◌, refl, sym, Ura, Val, Sym, ty_ptr, ent, sep, never_e, Lft, Share, Fml, ftrue, fat, Logic, sem, Goal, Soaks, Step, step, Seq, Item, ‵, ◌⊛◌, ◌$◌, ◌∵◌, !, qed, given, learn, keep, move, drop, use1, split, rewrite, fsplit, feq_l, feq_i, flt_l, done, flft, cell_at, part_at, hidden_shr, RattleType, RowLaws, Ptr, RawPtr, block_ptr, null_ptr, coded_ptr, ptr_own, ptr_row_laws, rawptr_pure, ptr_val, Testable, Struct, Struct-row_laws, looks, shuts, nothing, Option, None, Some, lent_from}
 use denote.Copied.{plain_Copied}
-use denote.Memory.{cell_at, part_at, hidden_shr}
-use denote.RattleType.{RattleType, RowLaws}
-use denote.RawPtr.{Ptr, RawPtr, block_ptr, null_ptr, coded_ptr, ptr_own, ptr_row_laws, rawptr_pure, ptr_val, Testable}
 use denote.Struct.Laws.{RawPtr-laws}
-use denote.Struct.Struct.{Struct, Struct-row_laws}
 use denote.Opens.{Shut, shr_dup, unhide, hide}
-use denote.Steps.{looks, shuts, nothing}
-use Rattle.core.specs.declared.option.Option.{Option}
-use Rattle.core.specs.declared.option.Option.TheVariants.{None, Some}
-use Rattle.sand_c.specs.Handles.{lent_from}
 use Rattle.sand_c.proofs.HandleSteps.{shape}
 
 module _ (name : Sym) {M : Type 1} {𝓤 : Ura M} (𝓛 : Logic 𝓤) (κ : Lft) (b o : ℕ) (p : Ptr) where

@@ -1,8 +1,5 @@
 -- What is lent of a driven pile may be read on any thread. (The toolchain does not show that of a pass, whose seat is only `Send`.)
-use Rattle.std.specs.Prelude.{Option}
-use denote.Param.Send.{Common}
-use denote.RawPtr.{Ptr}
-use Rattle.sand_c.specs.Handles.{lent_from}
+use Rattle.sand_c.proofs.Common.{Option, Common, Ptr, lent_from}
 use Rattle.sand_c.specs.contracts.drive.Drive.{the_row as Drive}
 use Rattle.sand_c.proofs.drive.Drive.TheSendSync as drive
 use Rattle.sand_c.proofs.LentSteps.{crosses_lent}

@@ -1,14 +1,7 @@
 -- The settled records of several piles, one after another.
-use Rattle.std.proofs.Common.{◌≡◌, ◌∙◌, ◌+◌, ℕ, List, [], ◌∷◌, ◌++◌, length, ap, sym, arith, inl, inr}
-use Rattle.std.specs.Prelude.{slice_index}
-use Rattle.std.specs.Fork.{slice_chunk}
-use Rattle.std.proofs.lemmas.Bool.{cases_lt}
-use Rattle.std.proofs.lemmas.List.{length_push}
-use Rattle.sand_model.specs.Grid.{Grid, sites}
-use Rattle.sand_settle.specs.Settling.{SettledView, IsSettledRecord}
+use Rattle.sand_c.proofs.Common.{◌≡◌, ◌∙◌, ◌+◌, ℕ, List, [], ◌∷◌, ◌++◌, length, ap, sym, arith, inl, inr, slice_index, slice_chunk, cases_lt, length_push, Grid, sites, SettledView, IsSettledRecord, AreRecords}
 use Rattle.sand_settle.proofs.Records.{same_record}
 use Rattle.sand_c.specs.declared.settling.SettledPiles.{SettledPiles}
-use Rattle.sand_c.specs.Settling.{AreRecords}
 use Rattle.sand_c.proofs.Chunks.{longer, chunk_before, chunk_last, number_before, number_last}
 
 -- a settled pile was appended

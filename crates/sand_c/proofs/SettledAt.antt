@@ -1,17 +1,9 @@
 -- What the j-th pile in the arguments settles to.
-use Rattle.std.proofs.Common.{◌≡◌, ◌*◌, ◌<◌, ◌≤◌, ℕ, Bool, true, false, List, length, refl, ap}
-use Rattle.std.specs.Prelude.{Ok, Err, if◌then◌else◌}
-use Rattle.std.specs.List.{sum}
-use Rattle.std.specs.Fork.{slice_chunk}
-use Rattle.std.proofs.lemmas.Bool.{eq-eqb, le-ltb}
+use Rattle.sand_c.proofs.Common.{◌≡◌, ◌*◌, ◌<◌, ◌≤◌, ℕ, Bool, true, false, List, length, refl, ap, Ok, Err, if◌then◌else◌, sum, slice_chunk, eq-eqb, le-ltb, Grid, sites, most_grains, edge_of, grid_of, shaped, settling_of, are_within, IsSettlingAt, AreRecords}
 use Rattle.sand_model.specs.declared.shape.Edge.{Edge}
 use Rattle.sand_model.specs.declared.faults.ShapeFault.TheVariants.{Side, Narrow}
-use Rattle.sand_model.specs.Grid.{Grid, sites}
-use Rattle.sand_model.specs.Piles.{most_grains}
 use Rattle.sand_c.specs.declared.arguments.Sides.{Sides}
 use Rattle.sand_c.specs.declared.settling.SettledPiles.{SettledPiles}
-use Rattle.sand_c.specs.Arguments.{edge_of, grid_of, shaped}
-use Rattle.sand_c.specs.Settling.{settling_of, are_within, IsSettlingAt, AreRecords}
 use Rattle.sand_c.proofs.Chunks.{has_n, each_within}
 
 -- a grid has the sides that it was made of

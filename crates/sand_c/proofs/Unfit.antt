@@ -1,13 +1,10 @@
 -- Why a pile is not recurrent, given what the burning test rejected.
-use Rattle.std.proofs.Common.{◌≡◌, refl}
-use Rattle.std.specs.Prelude.{Result, alloc_error}
-use Rattle.sand_model.specs.Piles.{PileView}
+use Rattle.sand_c.proofs.Common.{◌≡◌, refl, Result, alloc_error, PileView, Fault}
 use Rattle.sand_group.specs.declared.faults.GroupFault.{GroupFault}
 use Rattle.sand_group.specs.declared.faults.GroupFault.TheVariants as group
 use Rattle.sand_group.proofs.WhyRefused.{IsRefused, refusal}
 use Rattle.sand_c.specs.Group.{IsUnfit}
 use Rattle.sand_c.specs.Faults.{of_group}
-use Rattle.sand_c.specs.declared.faults.Fault.{Fault}
 use Rattle.sand_c.specs.declared.faults.Fault.TheVariants as c
 
 pub unfit : {A : Type 0} (pile : PileView) (answer : Result A GroupFault) (fault : GroupFault)

@@ -1,15 +1,10 @@
 -- The list of waves: one wave more, and those of one drop more.
-use Rattle.std.proofs.Common.{◌≡◌, ◌+◌, ◌<◌, ◌≤◌, ℕ, suc, List, [], ◌∷◌, ◌++◌, length, take, drop, set, get_or, refl, sym, ◌∙◌, ap, ap₂, subst, arith, take-add}
-use Rattle.std.proofs.lemmas.List.{length-take-le, take_more, drop_more, set_at, take_at, drop_at, drop-drop, append_assoc, append-nil}
-use Rattle.sand_model.specs.Grid.{sites}
-use Rattle.sand_model.specs.Edges.{most_to_edge}
+use Rattle.sand_c.proofs.Common.{◌≡◌, ◌+◌, ◌<◌, ◌≤◌, ℕ, suc, List, [], ◌∷◌, ◌++◌, length, take, set, get_or, refl, sym, ◌∙◌, ap, ap₂, subst, arith, take-add, length-take-le, take_more, drop_more, set_at, take_at, drop_at, drop-drop, append_assoc, append-nil, sites, most_to_edge, Avalanche, DrivenView, grid_of_driven, Drops, waves_from, AreWavesOf, AreWaves}
+use Rattle.std.proofs.Common.{drop}
 use Rattle.sand_model.proofs.Edges.{none_farther}
 use Rattle.sand_fronts.proofs.WaveSizes.{written_whole}
-use Rattle.sand_settle.specs.Avalanches.{Avalanche}
-use Rattle.sand_settle.specs.Drops.{DrivenView, grid_of_driven, Drops}
 use Rattle.sand_settle.specs.Waves.{HasDroppedInWaves}
 use Rattle.sand_c.specs.declared.waves.SandpileWave.{SandpileWave}
-use Rattle.sand_c.specs.Waves.{waves_from, AreWavesOf, AreWaves}
 
 abbrev wave_is : ℕ → ℕ → ℕ → SandpileWave
 wave_is n k size = record { number = n; wave = k; size = size }

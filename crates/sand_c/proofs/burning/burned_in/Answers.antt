@@ -1,8 +1,6 @@
 -- A burning order has as many sites as the grid (`order_fits`), and a forbidden set at most as many (`set_fits`): so
 -- there is a place for each site found.
-use Rattle.std.proofs.Common.{true, false, ap, arith, rules}
-use Rattle.sand_model.specs.Grid.{sites}
-use Rattle.sand_model.specs.Piles.{PileView, height_of}
+use Rattle.sand_c.proofs.Common.{true, false, ap, arith, rules, sites, PileView, height_of}
 use Rattle.sand_c.proofs.Found.{burning, order_fits, set_fits}
 use Rattle.sand_c.proofs.burning.burned_in.Goals as goal
 

@@ -1,5 +1,4 @@
-use Rattle.std.proofs.Common.{ℕ, List, ◌∙◌, ap, arith, length}
-use Rattle.sand_model.specs.Piles.{PileView}
+use Rattle.sand_c.proofs.Common.{ℕ, List, ◌∙◌, ap, arith, length, PileView}
 use Rattle.sand_c.proofs.ClassSteps.{recurrent_written}
 use Rattle.sand_c.proofs.classes.fire_in_place.Goals as goal
 

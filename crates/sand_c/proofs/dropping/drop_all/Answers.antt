@@ -1,11 +1,6 @@
-use Rattle.std.proofs.Common.{◌∙◌, ℕ, List, [], ◌∷◌, ◌++◌, subst, arith, take, get_or}
-use Rattle.std.specs.Prelude.{Result, IfOk, OnOk}
-use Rattle.std.proofs.lemmas.List.{take_more}
-use Rattle.sand_model.specs.Piles.{PileView}
-use Rattle.sand_settle.specs.Avalanches.{Avalanche, IsAvalanche}
-use Rattle.sand_settle.specs.Drops.{DrivenView, grid_of_driven, topplings_between, IsAfter, Drops}
+use Rattle.sand_c.proofs.Common.{◌∙◌, ℕ, List, [], ◌∷◌, ◌++◌, subst, arith, take, get_or, Result, IfOk, OnOk, take_more, PileView, Avalanche, IsAvalanche, DrivenView, grid_of_driven, topplings_between, IsAfter, Drops, append_assoc}
 use Rattle.sand_settle.specs.declared.faults.OneFault.{OneFault}
-use Rattle.sand_c.proofs.Rows.{rows_push, and_then}
+use Rattle.sand_c.proofs.Rows.{rows_push}
 use Rattle.sand_c.proofs.dropping.drop_all.Goals as goal
 
 pub loop-site-preserved : goal.loop-site-preserved
@@ -23,7 +18,7 @@ loop-site-preserved c =
     let noted = rows_push c.args.pile.now v w (take i c.args.drops.now) c.loop-site.rows.items site c.unwrap.result.1 c.loop-site.invariant.rows drops avalanche in
     record {
       rows = rw (more, c.push_reserved.ensures.items) noted;
-      after = λ start history first. rw more (subst (λ (l : List ℕ). IsAfter start l w) (and_then history (take i c.args.drops.now) site)
+      after = λ start history first. rw more (subst (λ (l : List ℕ). IsAfter start l w) (append_assoc history (take i c.args.drops.now) (site ∷ []))
           (after start (history ++ take i c.args.drops.now) (c.loop-site.invariant.after start history first)));
       grid = drops.settled.grid ∙ c.loop-site.invariant.grid;
       grains = omega (arith, drops.grains, c.loop-site.invariant.grains);

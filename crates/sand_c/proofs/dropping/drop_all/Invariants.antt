@@ -1,7 +1,4 @@
-use Rattle.std.proofs.Common.{◌≡◌, ◌+◌, ℕ, List, ◌++◌, length, take, vec_len, vec_capacity}
-use Rattle.sand_model.specs.Piles.{PileView}
-use Rattle.sand_settle.specs.Drops.{grid_of_driven, IsAfter}
-use Rattle.sand_c.specs.Dropping.{AreAvalanches}
+use Rattle.sand_c.proofs.Common.{◌≡◌, ◌+◌, ℕ, List, ◌++◌, length, take, vec_len, vec_capacity, PileView, grid_of_driven, IsAfter, AreAvalanches}
 use Rattle.sand_c.proofs.dropping.drop_all.Given as goal
 
 abbrev pub invariant-loop-site : goal.invariant-loop-site

@@ -1,11 +1,5 @@
-use Rattle.std.proofs.Common.{rules, ℕ, ◌-◌, ◌<◌, ◌≤◌, ◌∙◌, ap, arith, length, ⊎_elim}
-use Rattle.std.specs.Prelude.{slice_index}
-use Rattle.std.proofs.lemmas.Bool.{cases_lt}
-use Rattle.std.proofs.lemmas.List.{get_or-replicate}
-use Rattle.sand_model.specs.Grid.{sites}
+use Rattle.sand_c.proofs.Common.{rules, ℕ, ◌-◌, ◌<◌, ◌≤◌, ◌∙◌, ap, arith, length, ⊎_elim, slice_index, cases_lt, get_or-replicate, sites, odometer_of, grid_of_driven}
 use Rattle.sand_settle.specs.Near.{AgreeFar}
-use Rattle.sand_settle.specs.Settling.{odometer_of}
-use Rattle.sand_settle.specs.Drops.{grid_of_driven}
 use Rattle.sand_c.proofs.kept_odometer.take_topplings.Goals.{After-fill}
 use Rattle.sand_c.proofs.kept_odometer.take_topplings.Goals as goal
 

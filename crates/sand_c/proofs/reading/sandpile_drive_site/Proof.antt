@@ -1,38 +1,7 @@
 -- What the pointer leads to is lent; the call that does the work gets it, and all else as it came.
-use Rattle.std.proofs.Common.{◌+◌, ◌^◌, ℕ, ap, List, [], ◌∷◌, ◌++◌, refl, sym, subst, lit<}
-use mir.Val.{Val, vint, vptr, vnull, vcons, vnil}
-use mir.Syntax.{Body, named, seq, assign, place, rv_opd, copy, aggregate, int, w8, w32, w64}
-use base.Logic.{SProp, ent, id⊢}
-use base.Fml.{ftrue, flft}
-use prog.Wp.{WpFn, Wp, after_seq, at_return}
-use types.Kit.{‵, raw, ◌⊛◌, at_ret, any_q, ◌$◌, ◌∵◌, !, qed, move, keep, drop, use0, use1, join, split, fsplit, fjoin, feq_i, feq_l, flt_l, flt_i, rewrite, await, pick, use2, some, later, suffices, done}
-use types.Part.{agg}
-use types.Run.{stop, fld, lit, bin, load, look, addr, no_more, and_then, of_opd, first, blocks, branches, exec, returns, enter}
-use types.ByLocal.{alloc_all, pass_all, free_all, look_at, get, through, sets, sets_last, lands_as, env}
-use types.Match.{live}
-use contract.Running.{tables}
-use denote.Builtin.{RefOf, u32, u64, usize}
-use denote.Exit.{yes}
-use denote.Param.{layout}
-use denote.RattleType.{RattleType, Valss, owns}
-use denote.Ref.{ShrRef, MutRef}
+use Rattle.sand_c.proofs.Common.{◌≡◌, ◌+◌, ◌^◌, ℕ, ap, List, [], ◌∷◌, ◌++◌, refl, sym, subst, lit<, Val, vint, vptr, vnull, vcons, vnil, Body, named, seq, assign, place, rv_opd, copy, aggregate, int, w8, w32, w64, SProp, ent, id⊢, ftrue, flft, WpFn, Wp, after_seq, at_return, ‵, raw, ◌⊛◌, at_ret, any_q, ◌$◌, ◌∵◌, !, qed, move, keep, drop, use0, use1, join, split, fsplit, fjoin, feq_i, feq_l, flt_l, flt_i, rewrite, await, pick, use2, some, later, suffices, done, agg, stop, fld, lit, bin, load, look, addr, no_more, and_then, of_opd, first, blocks, branches, exec, returns, enter, alloc_all, pass_all, free_all, look_at, get, through, sets, sets_last, lands_as, env, live, tables, RefOf, u32, u64, usize, yes, layout, RattleType, Valss, owns, ShrRef, MutRef, lent_from, Slot, plain, types_at, block_ptr, ptr_val, tests_null, nothing, only, calls_at, Lasts, lasts, at_exit, triple_of, framed, Stays, stay_dropped, gave_ref, walk_of, ends_at, Goes-dropped, Goes-gave_ref, after, Good, Some-of, none_of, Option, None, Some, proved_at, Sq, prop, holding, forget_but, seen_in}
 use Rattle.core.specs.contracts.option.Option as O
-use Rattle.sand_c.specs.Handles.{lent_from}
-use denote.Signature.{Slot, plain, types_at}
-use denote.RawPtr.{block_ptr, ptr_val, tests_null}
-use denote.Steps.{nothing, only}
-use denote.Triple.Call.{calls_at}
-use denote.Triple.Clauses.{Lasts, lasts, at_exit}
-use denote.Triple.Spec.{triple_of}
-use denote.Triple.Table.{framed}
-use denote.Triple.Walked.{Stays, stay_dropped, gave_ref, walk_of, ends_at, Goes-dropped, Goes-gave_ref}
-use Rattle.core.proofs.alloc.Shapes.{after}
-use Rattle.core.proofs.cell.Inside.{Good}
-use Rattle.core.proofs.option.Made.{Some-of, none_of}
-use Rattle.core.specs.declared.option.Option.{Option}
-use Rattle.core.specs.declared.option.Option.TheVariants.{None, Some}
-use Rattle.std.proofs.raw_atomic.Walks.{proved_at}
-use Rattle.sand_c.proofs.ReadSteps.{shows_at, at_in, at_out, sees}
+use Rattle.sand_c.proofs.ReadSteps.{S, shows_at, at_in, at_out, sees}
 use Rattle.sand_c.specs.contracts.drive.Drive.{the_row as Held}
 use Rattle.sand_c.specs.contracts.lent.LentDrive as Seen
 use Rattle.sand_c.specs.contracts.reading.site_in as g
@@ -55,10 +24,35 @@ sandpile_drive_site_spec 𝓤 𝓛 𝓜 𝓡 wired =
     let κ = z.0.0.0 in let q = z.0.1.0 in let κ1 = z.0.0.1.0 in let q1 = z.0.1.1.0 in let κ2 = z.0.0.1.1.0 in let q2 = z.0.1.1.1.0 in
     let b = z.0.3.0.ref_ptr.0 in let o = z.0.3.0.ref_ptr.1 in let p = z.0.3.0.now.0 in let l = z.1 in
     let name = Seen.the_type.name in let Ref : RattleType = ShrRef (named 0) l.life Held in let Opt : RattleType = O.the_row Ref in
-    let Others : List RattleType = usize ∷ MutRef (named 1) κ1 u64 ∷ MutRef (named 2) κ2 u64 ∷ [] in let Rest = ‵ (flft κ1 q1) ⊛ ‵ (flft κ2 q2) ⊛ ‵ ftrue in let ran : List Val = vptr b o ∷ vint w64 z.0.3.1.0 ∷ vptr z.0.3.1.1.0.ref_ptr.0 z.0.3.1.1.0.ref_ptr.1 ∷ vptr z.0.3.1.1.1.0.ref_ptr.0 z.0.3.1.1.1.0.ref_ptr.1 ∷ [] in
+    let Others : List RattleType = usize ∷ MutRef (named 1) κ1 u64 ∷ MutRef (named 2) κ2 u64 ∷ [] in let Rest = ‵ (flft κ1 q1) ⊛ ‵ (flft κ2 q2) ⊛ ‵ ftrue in
+    let w2 : Val = vint w64 z.0.3.1.0 in let w3 : Val = vptr z.0.3.1.1.0.ref_ptr.0 z.0.3.1.1.0.ref_ptr.1 in let w4 : Val = vptr z.0.3.1.1.1.0.ref_ptr.0 z.0.3.1.1.1.0.ref_ptr.1 in
+    let ran : List Val = vptr b o ∷ w2 ∷ w3 ∷ w4 ∷ [] in let others : Valss Others = (w2 ∷ [], (w3 ∷ [], (w4 ∷ [], tt))) in
     let G = triple_of 𝓛 g.signature (g.spec 𝓛 𝓜.mem 𝓡.returns) in let does = met 𝓤 𝓛 𝓜 𝓡 (code.calls-sand_c::reading::site_in 𝓡.env wired) in
     let Opt0 : Type 0 = Option Held.Denot in let Says : Opt0 → ℕ → Unit {0} × (ℕ × (ℕ × (Unit {0}))) → SProp 𝓤 = λ h r w. (c z.0.0 z.0.3).ensures (record l { held = h }) r (at_exit En z.0.0 z.0.3 (tt, w)) in
     let Post : Val → SProp 𝓤 = (walk_of 𝓛 En hs c).post z in let Run : List Val → SProp 𝓤 = λ ws. WpFn 𝓤 H 𝓣.C 𝓣.Λ fn ws Post in
+    -- the call, with what was seen in local 10
+    let call : (λs : ℕ → ℕ) (h : Option Ref.Denot) (v : Val) → Good (layout Opt) v → l.held ≡ seen_in h
+    → Sq 𝓛 (‵ (Opt.own_val h (v ∷ [])) ∷ ‵ (flft κ q) ∷ ‵ (S name 𝓛 κ b o p) ∷ ‵ (owns Others z.0.3.1 others) ∷ ‵ (flft l.life l.share) ∷ Rest
+    ∷ holding 𝓛 (env fn.locals λs) ((1, vptr b o) ∷ (2, w2) ∷ (3, w3) ∷ (4, w4) ∷ (10, v) ∷ []))
+    (prop (Wp 𝓤 H 𝓣.C 𝓣.Λ (env fn.locals λs) (after 5 fn.body) (at_return 𝓤 H (env fn.locals λs) Post))) =
+    λ λs h v good is. (exec ! 𝓣.C 𝓣.Λ (env fn.locals λs) (after 5 fn.body) (at_ret (env fn.locals λs) Post) $
+    sets ! (of_opd ! (get ! refl)) refl good $ sets ! (of_opd ! (get ! refl)) refl good $
+    sets ! (of_opd ! (get ! refl)) refl (tt, record { fits = are.1.0.1 }) $
+    sets ! (addr ! (through ! refl (stop !))) refl (tt, tt) $
+    sets ! (addr ! (through ! refl (stop !))) refl (tt, tt) $
+    move ! (0 ∷ 3 ∷ []) $ fjoin ! $ move ! (3 ∷ 4 ∷ []) $ join ! $ join ! $ nothing ! $ move ! (1 ∷ 0 ∷ []) $
+    let y : G.Ghost = (((l.life, (κ1, (κ2, tt))), (l.share, (q1, (q2, tt))), tt, (h, z.0.3.1), (v ∷ [], others)), tt) in
+    use2 𝓛 (raw (G.pre y)) (id⊢ 𝓤 _) $
+    calls_at ! (framed 𝓤 H 𝓜 𝓣) G does y (and_then ! (get ! refl) (and_then ! (get ! refl) (and_then ! (get ! refl) (and_then ! (get ! refl) (no_more !))))) (λ u.
+    use1 𝓛 (later (some (λ (r : ℕ). ((‵ (flft l.life l.share) ⊛ Rest) ⊛ ‵ (u32.own_val r (u ∷ []))) ⊛
+    some (λ (ws : Lasts g.ended y.0.0 y.0.3). ‵ (lasts g.ended y.0.0 y.0.3 ws) ⊛ raw ((g.clauses 𝓛 𝓜.mem 𝓡.returns y.0.0 y.0.3).ensures tt r (at_exit g.ended y.0.0 y.0.3 ws)))))) (id⊢ 𝓤 _) $
+    await ! tt $ pick ! (λ r. split ! $ move ! (1 ∷ []) $ pick ! (λ ws. split ! $ move ! (2 ∷ []) $ split ! $ move ! (1 ∷ []) $ fsplit ! $ feq_l ! (λ is_u. flt_l ! (λ fits.
+    lands_as ! (ap only is_u) refl (tt, record { fits = fits }) $ returns ! (look_at ! 0 refl) $ free_all ! refl $
+    -- [the tokens; what the references are at last; what the call promises; the token of the handle; the handle]
+    suffices ! _ (ends_at 𝓛 En hs c z (vint w32 r) r (tt, ws.1) (tt, (tt, (tt, (tt, tt))))) $
+    split ! $ move ! (0 ∷ 3 ∷ []) $ join ! $ use1 𝓛 (raw (Says (seen_in h) r ws.1)) (id⊢ 𝓤 _) $ rewrite ! 0 (λ (h : Opt0). raw (Says h r ws.1)) (sym is) refl $
+    flt_i ! r (2 ^ 32) fits $ feq_i ! (List Val) (vint w32 r ∷ []) (vint w32 r ∷ []) refl $ fjoin ! $ move ! (3 ∷ 0 ∷ []) $ join ! $
+    move ! (3 ∷ 2 ∷ []) $ join ! $ join ! $ join ! $ keep ! (0 ∷ []) $ done !)))))) in
     qed 𝓛 (((‵ (flft κ q) ⊛ Rest) ⊛ ‵ (owns (types_at En.signature.params z.0.0) z.0.3 z.0.4)) ∷ raw ((c z.0.0 z.0.3).requires z.1) ∷ []) ∵
     split ! $ split ! $ move ! (3 ∷ []) $ use1 𝓛 (‵ (lent_from Held p l.held l.life) ⊛ ‵ (flft l.life l.share)) (id⊢ 𝓤 _) $ split ! $
     -- [what is lent; its token; the token of the handle; the other tokens; the arguments]
@@ -68,32 +62,15 @@ sandpile_drive_site_spec 𝓤 𝓛 𝓜 𝓡 wired =
     -- [what is lent; the handle; its token; the other arguments; the token of what is lent; the other tokens]
     suffices ! (Run ran) (subst (λ (us : List Val). ent 𝓤 (Run ran) (Run us)) (sym (λ i. are.0.0 i ++ (are.1.0.0 i ++ (are.1.1.0.0 i ++ (are.1.1.1.0.0 i ++ []))))) (id⊢ 𝓤 (Run ran))) $
     sees Held ! l.life p l.held
-    (λ at none. enter ! 𝓣.C 𝓣.Λ fn ran Post $ alloc_all ! (λ λs. pass_all ! refl ((tt, tt), ((tt, record { fits = are.1.0.1 }), ((tt, tt), ((tt, tt), tt)))) $ let Ev = env fn.locals λs in
+    (λ at none. enter ! 𝓣.C 𝓣.Λ fn ran Post $ alloc_all ! (λ λs. pass_all ! refl ((tt, tt), ((tt, record { fits = are.1.0.1 }), ((tt, tt), ((tt, tt), tt)))) $
     at_in ! tt p vnull (ap ptr_val at) b (o + 0) (shows_at name 𝓛 κ b o p) (λ q''.
     sets ! (of_opd ! (load ! (through ! refl (fld ! refl (stop !))) (look ! 1 refl))) refl (tt, record { fits = lit< tt }) $
     at_out ! tt p vnull (ap ptr_val at) b (o + 0) $
     sets ! (of_opd ! (get ! refl)) refl (tt, record { fits = lit< tt }) $ sets ! (of_opd ! (get ! refl)) refl (tt, record { fits = lit< tt }) $
     sets ! (bin ! (get ! refl) (lit ! tt) tt) refl (tt, tt) $ first ! $ branches ! (get ! refl)
-    (λ _. sets_last ! (agg ! (and_then ! (lit ! tt) (no_more !))) refl (tt, (record { fits = lit< tt }, tt)) $
-    exec ! 𝓣.C 𝓣.Λ Ev (after 5 fn.body) (at_ret Ev Post) $ sets ! (of_opd ! (get ! refl)) refl (tt, (record { fits = lit< tt }, tt)) $
-    sets ! (of_opd ! (get ! refl)) refl (tt, (record { fits = lit< tt }, tt)) $
-    use0 𝓛 (‵ (Opt.own_val None (live 0 vnil ∷ []))) (none_of 𝓛 Ref) $
-    sets ! (of_opd ! (get ! refl)) refl (tt, record { fits = are.1.0.1 }) $
-    sets ! (addr ! (through ! refl (stop !))) refl (tt, tt) $
-    sets ! (addr ! (through ! refl (stop !))) refl (tt, tt) $
-    move ! (0 ∷ 3 ∷ []) $ fjoin ! $ move ! (3 ∷ 4 ∷ []) $ join ! $ join ! $ nothing ! $ move ! (1 ∷ 0 ∷ []) $
-    let y : G.Ghost = (((l.life, (κ1, (κ2, tt))), (l.share, (q1, (q2, tt))), tt, (None, z.0.3.1), (live 0 vnil ∷ [], (vint w64 z.0.3.1.0 ∷ [], (vptr z.0.3.1.1.0.ref_ptr.0 z.0.3.1.1.0.ref_ptr.1 ∷ [], (vptr z.0.3.1.1.1.0.ref_ptr.0 z.0.3.1.1.1.0.ref_ptr.1 ∷ [], tt))))), tt) in
-    use2 𝓛 (raw (G.pre y)) (id⊢ 𝓤 _) $
-    calls_at ! (framed 𝓤 H 𝓜 𝓣) G does y (and_then ! (get ! refl) (and_then ! (get ! refl) (and_then ! (get ! refl) (and_then ! (get ! refl) (no_more !))))) (λ v.
-    use1 𝓛 (later (some (λ (r : ℕ). ((‵ (flft l.life l.share) ⊛ Rest) ⊛ ‵ (u32.own_val r (v ∷ []))) ⊛
-    some (λ (ws : Lasts g.ended y.0.0 y.0.3). ‵ (lasts g.ended y.0.0 y.0.3 ws) ⊛ raw ((g.clauses 𝓛 𝓜.mem 𝓡.returns y.0.0 y.0.3).ensures tt r (at_exit g.ended y.0.0 y.0.3 ws)))))) (id⊢ 𝓤 _) $
-    await ! tt $ pick ! (λ r. split ! $ move ! (1 ∷ []) $ pick ! (λ ws. split ! $ move ! (2 ∷ []) $ split ! $ move ! (1 ∷ []) $ fsplit ! $ feq_l ! (λ is_v. flt_l ! (λ fits.
-    lands_as ! (ap only is_v) refl (tt, record { fits = fits }) $ returns ! (look_at ! 0 refl) $ free_all ! refl $
-    -- [the tokens; what the references are at last; what the call promises; the token of the handle; the handle]
-    suffices ! _ (ends_at 𝓛 En hs c z (vint w32 r) r (tt, ws.1) (tt, (tt, (tt, (tt, tt))))) $
-    split ! $ move ! (0 ∷ 3 ∷ []) $ join ! $ use1 𝓛 (raw (Says None r ws.1)) (id⊢ 𝓤 _) $ rewrite ! 0 (λ (h : Opt0). raw (Says h r ws.1)) (sym none) refl $
-    flt_i ! r (2 ^ 32) fits $ feq_i ! (List Val) (vint w32 r ∷ []) (vint w32 r ∷ []) refl $ fjoin ! $ move ! (3 ∷ 0 ∷ []) $ join ! $
-    move ! (3 ∷ 2 ∷ []) $ join ! $ join ! $ join ! $ keep ! (0 ∷ []) $ done !))))))
+    (λ _. let good : Good (layout Opt) (live 0 vnil) = (tt, (record { fits = lit< tt }, tt)) in
+    sets_last ! (agg ! (and_then ! (lit ! tt) (no_more !))) refl good $ forget_but ! (env fn.locals λs) (1 ∷ 2 ∷ 3 ∷ 4 ∷ 10 ∷ []) refl $
+    use0 𝓛 (‵ (Opt.own_val None (live 0 vnil ∷ []))) (none_of 𝓛 Ref) $ call λs None (live 0 vnil) good none)
     (λ wrong. absurd wrong))))
     (λ b' o' x at one ok. enter ! 𝓣.C 𝓣.Λ fn ran Post $ alloc_all ! (λ λs. pass_all ! refl ((tt, tt), ((tt, record { fits = are.1.0.1 }), ((tt, tt), ((tt, tt), tt)))) $ let Ev = env fn.locals λs in
     let seen' : Ref.Denot = record { ref_ptr = (b', o'); now = x } in let v' : Val = live 1 (vcons (vptr b' o') vnil) in
@@ -107,22 +84,5 @@ sandpile_drive_site_spec 𝓤 𝓛 𝓜 𝓡 wired =
     (λ wrong. absurd wrong)
     (λ _. first ! $ blocks ! $ sets_last ! (addr ! (through ! refl (stop !))) refl (tt, tt) $ exec ! 𝓣.C 𝓣.Λ Ev wraps Then $
     sets ! (of_opd ! (get ! refl)) refl (tt, tt) $ sets_last ! (agg ! (and_then ! (lit ! tt) (and_then ! (get ! refl) (no_more !)))) refl good $
-    exec ! 𝓣.C 𝓣.Λ Ev (after 5 fn.body) (at_ret Ev Post) $ sets ! (of_opd ! (get ! refl)) refl good $ sets ! (of_opd ! (get ! refl)) refl good $
-    move ! (2 ∷ []) $ feq_i ! (List Val) (vptr b' o' ∷ []) (vptr b' o' ∷ []) refl $ fjoin ! $
-    use1 𝓛 (‵ (Opt.own_val (Some seen') (v' ∷ []))) (Some-of 𝓛 Ref seen' (vptr b' o')) $
-    sets ! (of_opd ! (get ! refl)) refl (tt, record { fits = are.1.0.1 }) $
-    sets ! (addr ! (through ! refl (stop !))) refl (tt, tt) $
-    sets ! (addr ! (through ! refl (stop !))) refl (tt, tt) $
-    move ! (0 ∷ 3 ∷ []) $ fjoin ! $ move ! (3 ∷ 4 ∷ []) $ join ! $ join ! $ nothing ! $ move ! (1 ∷ 0 ∷ []) $
-    let y : G.Ghost = (((l.life, (κ1, (κ2, tt))), (l.share, (q1, (q2, tt))), tt, (Some seen', z.0.3.1), (v' ∷ [], (vint w64 z.0.3.1.0 ∷ [], (vptr z.0.3.1.1.0.ref_ptr.0 z.0.3.1.1.0.ref_ptr.1 ∷ [], (vptr z.0.3.1.1.1.0.ref_ptr.0 z.0.3.1.1.1.0.ref_ptr.1 ∷ [], tt))))), tt) in
-    use2 𝓛 (raw (G.pre y)) (id⊢ 𝓤 _) $
-    calls_at ! (framed 𝓤 H 𝓜 𝓣) G does y (and_then ! (get ! refl) (and_then ! (get ! refl) (and_then ! (get ! refl) (and_then ! (get ! refl) (no_more !))))) (λ v.
-    use1 𝓛 (later (some (λ (r : ℕ). ((‵ (flft l.life l.share) ⊛ Rest) ⊛ ‵ (u32.own_val r (v ∷ []))) ⊛
-    some (λ (ws : Lasts g.ended y.0.0 y.0.3). ‵ (lasts g.ended y.0.0 y.0.3 ws) ⊛ raw ((g.clauses 𝓛 𝓜.mem 𝓡.returns y.0.0 y.0.3).ensures tt r (at_exit g.ended y.0.0 y.0.3 ws)))))) (id⊢ 𝓤 _) $
-    await ! tt $ pick ! (λ r. split ! $ move ! (1 ∷ []) $ pick ! (λ ws. split ! $ move ! (2 ∷ []) $ split ! $ move ! (1 ∷ []) $ fsplit ! $ feq_l ! (λ is_v. flt_l ! (λ fits.
-    lands_as ! (ap only is_v) refl (tt, record { fits = fits }) $ returns ! (look_at ! 0 refl) $ free_all ! refl $
-    -- [the tokens; what the references are at last; what the call promises; the token of the handle; the handle]
-    suffices ! _ (ends_at 𝓛 En hs c z (vint w32 r) r (tt, ws.1) (tt, (tt, (tt, (tt, tt))))) $
-    split ! $ move ! (0 ∷ 3 ∷ []) $ join ! $ use1 𝓛 (raw (Says (Some x) r ws.1)) (id⊢ 𝓤 _) $ rewrite ! 0 (λ (h : Opt0). raw (Says h r ws.1)) (sym one) refl $
-    flt_i ! r (2 ^ 32) fits $ feq_i ! (List Val) (vint w32 r ∷ []) (vint w32 r ∷ []) refl $ fjoin ! $ move ! (3 ∷ 0 ∷ []) $ join ! $
-    move ! (3 ∷ 2 ∷ []) $ join ! $ join ! $ join ! $ keep ! (0 ∷ []) $ done !))))))))))
+    forget_but ! Ev (1 ∷ 2 ∷ 3 ∷ 4 ∷ 10 ∷ []) refl $ move ! (2 ∷ []) $ feq_i ! (List Val) (vptr b' o' ∷ []) (vptr b' o' ∷ []) refl $ fjoin ! $
+    use1 𝓛 (‵ (Opt.own_val (Some seen') (v' ∷ []))) (Some-of 𝓛 Ref seen' (vptr b' o')) $ call λs (Some seen') v' good one)))))

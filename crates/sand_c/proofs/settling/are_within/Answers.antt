@@ -1,6 +1,4 @@
-use Rattle.std.proofs.Common.{◌<◌, List, ℕ, sym, subst}
-use Rattle.std.specs.List.{sum}
-use Rattle.sand_model.specs.Piles.{most_grains}
+use Rattle.sand_c.proofs.Common.{◌<◌, List, ℕ, sym, subst, sum, most_grains}
 use Rattle.sand_c.proofs.Chunks.{one_over, of_none}
 use Rattle.sand_c.proofs.settling.are_within.Goals as goal
 

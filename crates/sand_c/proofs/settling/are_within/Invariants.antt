@@ -1,5 +1,4 @@
-use Rattle.std.proofs.Common.{◌≡◌, true}
-use Rattle.sand_c.specs.Settling.{are_within}
+use Rattle.sand_c.proofs.Common.{◌≡◌, true, are_within}
 use Rattle.sand_c.proofs.settling.are_within.Given as goal
 
 abbrev pub invariant-loop-pile : goal.invariant-loop-pile

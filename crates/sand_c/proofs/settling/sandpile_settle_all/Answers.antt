@@ -1,7 +1,6 @@
 -- The lists that are copied have the record of each pile, and the j-th is that of the j-th pile in the arguments
 -- (`settled_at`).
-use Rattle.std.proofs.Common.{◌∙◌, length}
-use Rattle.sand_c.specs.Arguments.{sides_of}
+use Rattle.sand_c.proofs.Common.{◌∙◌, length, sides_of}
 use Rattle.sand_c.proofs.SettledAt.{settled_at}
 use Rattle.sand_c.proofs.settling.sandpile_settle_all.Goals as goal
 

@@ -1,11 +1,7 @@
 -- Each pile is within the limit (`each_within`), so its copy settles in place. Its record is appended to those of the
 -- piles before it, and changes none of these (`one_more`).
-use Rattle.std.proofs.Common.{◌≡◌, ◌∙◌, ℕ, List, ap, subst, rules}
-use Rattle.std.specs.Prelude.{slice_index}
-use Rattle.std.specs.Fork.{slice_chunk}
-use Rattle.sand_model.specs.Grid.{Grid, sites}
+use Rattle.sand_c.proofs.Common.{◌≡◌, ◌∙◌, ℕ, List, ap, subst, rules, slice_index, slice_chunk, Grid, sites, SettledView, IsSettledRecord}
 use Rattle.sand_settle.specs.InPlace.{record_in_place}
-use Rattle.sand_settle.specs.Settling.{SettledView, IsSettledRecord}
 use Rattle.sand_c.proofs.Chunks.{each_within}
 use Rattle.sand_c.proofs.Records.{one_more}
 use Rattle.sand_c.proofs.settling.settle_each.Goals.{After-copy_from_slice}

@@ -1,6 +1,4 @@
-use Rattle.std.proofs.Common.{◌≡◌, length, vec_len, vec_capacity}
-use Rattle.sand_model.specs.Grid.{sites}
-use Rattle.sand_c.specs.Settling.{AreRecords}
+use Rattle.sand_c.proofs.Common.{◌≡◌, length, vec_len, vec_capacity, sites, AreRecords}
 use Rattle.sand_c.proofs.settling.settle_each.Given as goal
 
 abbrev pub invariant-loop-next : goal.invariant-loop-next

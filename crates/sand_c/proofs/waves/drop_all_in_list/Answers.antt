@@ -1,12 +1,9 @@
 -- The waves so far are those of the drops so far, and the next drop writes its own behind them (`waves_more`, `take_on`); what is
 -- behind those stays (`drop_on`).
-use Rattle.std.proofs.Common.{ℕ, List, ◌++◌, take, drop, get_or, ◌≡◌, ◌∙◌, length, sym, ap, subst, arith}
-use Rattle.std.proofs.lemmas.List.{take_more, take_more_set, length-append, length-set, drop-drop}
-use Rattle.sand_model.specs.Edges.{most_to_edge}
-use Rattle.sand_settle.specs.Drops.{DrivenView, IsAfter}
+use Rattle.sand_c.proofs.Common.{ℕ, List, ◌++◌, take, get_or, ◌≡◌, ◌∙◌, length, sym, ap, subst, arith, take_more, take_more_set, length-append, length-set, drop-drop, most_to_edge, DrivenView, IsAfter, AreWaves, append_assoc, [], ◌∷◌}
+use Rattle.std.proofs.Common.{drop}
 use Rattle.sand_c.specs.declared.waves.SandpileWave.{SandpileWave}
-use Rattle.sand_c.specs.Waves.{AreWaves}
-use Rattle.sand_c.proofs.Rows.{rows_push, and_then}
+use Rattle.sand_c.proofs.Rows.{rows_push}
 use Rattle.sand_c.proofs.WaveLists.{waves_more, take_on, drop_on}
 use Rattle.sand_c.proofs.waves.drop_all_in_list.Goals as goal
 
@@ -34,7 +31,7 @@ loop-next-preserved c =
       waves = rw (more, take_on front rest count n front_len) (waves_more start v w drops front site (take n rest)
           (subst (λ l. AreWaves start drops l v) (sym c.split_at_mut-rest.ensures.front) was.waves)
           dropped.drops c.drop_in_list-more.ensures.waves);
-      after = λ first history led. rw more (subst (λ (l : List ℕ). IsAfter first l w) (and_then history drops site)
+      after = λ first history led. rw more (subst (λ (l : List ℕ). IsAfter first l w) (append_assoc history drops (site ∷ []))
           (dropped.after first (history ++ drops) (was.after first history led)));
       grid = dropped.drops.settled.grid ∙ was.grid;
       grains = omega (arith, dropped.drops.grains, was.grains);

@@ -1,9 +1,5 @@
-use Rattle.std.proofs.Common.{◌≡◌, ◌+◌, ◌*◌, ◌≤◌, ℕ, List, ◌++◌, length, take, drop}
-use Rattle.sand_model.specs.Edges.{most_to_edge}
-use Rattle.sand_model.specs.Piles.{PileView}
-use Rattle.sand_settle.specs.Drops.{grid_of_driven, IsAfter}
-use Rattle.sand_c.specs.Dropping.{AreAvalanches}
-use Rattle.sand_c.specs.Waves.{AreWaves}
+use Rattle.sand_c.proofs.Common.{◌≡◌, ◌+◌, ◌*◌, ◌≤◌, ℕ, List, ◌++◌, length, take, most_to_edge, PileView, grid_of_driven, IsAfter, AreAvalanches, AreWaves}
+use Rattle.std.proofs.Common.{drop}
 use Rattle.sand_c.proofs.waves.drop_all_in_list.Given as goal
 
 abbrev pub invariant-loop-next : goal.invariant-loop-next

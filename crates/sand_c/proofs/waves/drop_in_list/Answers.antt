@@ -1,10 +1,6 @@
 -- A drop has no more waves than its site is far from the nearest open edge, so there is room for all sizes (`few_waves`), and
 -- for all waves (`waves_of_drop`).
-use Rattle.std.proofs.Common.{◌≡◌, ◌≤◌, ℕ, length, take, sym, subst, arith}
-use Rattle.std.specs.Prelude.{Result, IfOk}
-use Rattle.sand_model.specs.Edges.{most_to_edge}
-use Rattle.sand_settle.specs.Avalanches.{Avalanche}
-use Rattle.sand_settle.specs.Drops.{grid_of_driven}
+use Rattle.sand_c.proofs.Common.{◌≡◌, ◌≤◌, ℕ, length, take, sym, subst, arith, Result, IfOk, most_to_edge, Avalanche, grid_of_driven}
 use Rattle.sand_settle.specs.Waves.{HasDropped, HasDroppedInWaves}
 use Rattle.sand_settle.specs.declared.faults.OneFault.{OneFault}
 use Rattle.sand_c.proofs.WaveLists.{few_waves, sizes_each, is_written}

@@ -1,7 +1,5 @@
-use denote.Struct.Struct.{exits_of}
+use Rattle.sand_c.proofs.Common.{exits_of, IsSend, AllSend, owning_send, struct_send, sendable, quiet}
 use denote.Struct.Owning.{shape, fields, to}
-use denote.Param.Send.{IsSend, AllSend, owning_send, struct_send, sendable}
-use Rattle.std_alloc.proofs.SendSync.{quiet}
 use Rattle.sand_c.specs.contracts.drive.Drive.{the_row as Held}
 use Rattle.sand_c.proofs.drive.Drive.TheSendSync.{the_send as held_send}
 use Rattle.sand_c.specs.contracts.drive_handle.SandpileDrive.{the_row, the_type}

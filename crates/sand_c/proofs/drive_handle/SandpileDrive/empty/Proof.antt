@@ -1,16 +1,6 @@
 -- A null pointer, and nothing with it.
-use Rattle.std.proofs.Common.{[], ◌∷◌, refl, lit<}
-use types.Kit.{raw, ◌$◌, ◌∵◌, !, qed, drop, join, feq_i, suffices, done}
-use types.Part.{agg}
-use types.Run.{enter, lit, no_more, and_then, returns}
-use types.ByLocal.{alloc_all, pass_all, free_all, look_at, sets}
-use contract.Running.{tables}
-use denote.RawPtr.{Ptr, null_ptr}
-use denote.Steps.{nothing}
+use Rattle.sand_c.proofs.Common.{[], ◌∷◌, refl, lit<, raw, ◌$◌, ◌∵◌, !, qed, drop, join, feq_i, suffices, done, agg, enter, lit, no_more, and_then, returns, alloc_all, pass_all, free_all, look_at, sets, tables, Ptr, null_ptr, nothing, walk_of, says, ends_at, None, proved}
 use denote.Triple.Entry.{on_entry}
-use denote.Triple.Walked.{walk_of, says, ends_at}
-use Rattle.core.specs.declared.option.Option.TheVariants.{None}
-use Rattle.std.proofs.raw_atomic.Walks.{proved}
 use Rattle.sand_c.proofs.HandleSteps.{handle_in, word}
 use Rattle.sand_c.specs.contracts.drive.Drive.{the_row as Held}
 use Rattle.sand_c.specs.contracts.drive_handle.SandpileDrive as Handle

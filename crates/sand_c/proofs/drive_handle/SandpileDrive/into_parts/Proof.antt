@@ -1,32 +1,8 @@
 -- At null there is nothing; else what the handle owns goes with the pointer and an allocator.
 use lib.Dec.{T}
-use Rattle.std.proofs.Common.{◌≡◌, ◌∙◌, ap, List, [], ◌∷◌, ◌++◌, refl, sym, subst, lit<}
-use mir.Val.{Val, vcons, vnil, has_ty, WT}
-use base.Logic.{SProp, ent, id⊢}
-use base.Fml.{ftrue}
-use prog.Wp.{WpFn}
-use types.Kit.{‵, raw, ◌⊛◌, at_ret, ◌$◌, ◌∵◌, !, qed, move, keep, drop, use0, use1, join, split, fsplit, fjoin, suffices, done}
-use types.Part.{whole, sub, agg}
-use types.Run.{stop, fld, lit, bin, no_more, and_then, of_opd, first, branches, exec, returns, enter}
-use types.ByLocal.{alloc_all, pass_all, free_all, look_at, get, get_in, sets, sets_last, env}
-use types.Match.{live}
-use contract.Running.{tables}
-use denote.Exit.{yes}
-use denote.Param.{layout}
-use denote.RattleType.{RattleType, owns}
-use denote.Signature.{Slot, plain, types_at, type_at}
-use denote.RawPtr.{Ptr, block_ptr, null_ptr, tests_null}
-use denote.Steps.{nothing}
-use denote.Triple.Walked.{says, Stays, stay_dropped, walk_of, ends_at, Goes-dropped}
-use Rattle.core.proofs.alloc.Calls.{handle_tells}
-use Rattle.core.proofs.alloc.Shapes.{after}
-use Rattle.core.proofs.option.Made.{Some-of, none_of}
-use Rattle.core.specs.declared.option.Option.TheVariants.{None, Some}
-use Rattle.std.proofs.raw_atomic.Walks.{proved_at}
+use Rattle.sand_c.proofs.Common.{◌≡◌, ◌∙◌, ap, List, [], ◌∷◌, ◌++◌, refl, sym, subst, lit<, Val, vcons, vnil, has_ty, WT, SProp, ent, id⊢, ftrue, WpFn, ‵, raw, ◌⊛◌, at_ret, ◌$◌, ◌∵◌, !, qed, move, keep, drop, use0, use1, join, split, fsplit, fjoin, suffices, done, whole, sub, agg, stop, fld, lit, bin, no_more, and_then, of_opd, first, branches, exec, returns, enter, alloc_all, pass_all, free_all, look_at, get, get_in, sets, sets_last, env, live, tables, yes, layout, RattleType, owns, Slot, plain, types_at, type_at, Ptr, block_ptr, null_ptr, tests_null, nothing, says, Stays, stay_dropped, walk_of, ends_at, Goes-dropped, handle_tells, after, Some-of, none_of, None, Some, proved_at, Bx, D, box_typed, box_in}
 use Rattle.std_alloc.proofs.ResultValues.{and_tt}
-use Rattle.std_alloc.proofs.BoxSteps.Form.{Bx, D, box_typed}
 use Rattle.std_alloc.proofs.BoxSteps.Form as box
-use Rattle.std_alloc.proofs.BoxSteps.Steps.{box_in}
 use Rattle.sand_c.proofs.HandleSteps.{FromHeap, either, handle_out, in_heap, parts_of, word}
 use Rattle.sand_c.specs.contracts.drive.Drive.{the_row as Held}
 use Rattle.sand_c.proofs.drive.Drive.TheLaws as held

@@ -1,30 +1,10 @@
 -- The pointer is copied, and what the parts own goes with it. The allocator owns nothing.
-use Rattle.std.proofs.Common.{List, [], ◌∷◌, ◌++◌, refl, sym, subst}
-use mir.Val.{Val}
-use base.Logic.{SProp, ent, id⊢}
-use base.Fml.{ftrue}
-use prog.Wp.{WpFn}
-use types.Kit.{‵, raw, ◌⊛◌, ◌$◌, ◌∵◌, !, qed, keep, drop, use1, join, split, fsplit, fjoin, suffices, done}
-use types.Part.{whole, sub, agg}
-use types.Run.{stop, fld, no_more, and_then, of_opd, returns, enter}
-use types.ByLocal.{alloc_all, pass_all, free_all, look_at, get, get_in, sets}
-use contract.Running.{tables}
-use denote.Exit.{yes}
-use denote.RattleType.{owns}
-use denote.RawPtr.{block_ptr}
-use denote.Signature.{Slot, plain, types_at}
-use denote.Steps.{nothing}
-use denote.Triple.Walked.{says, Stays, stay_dropped, walk_of, ends_at, Goes-dropped}
-use Rattle.core.specs.declared.option.Option.TheVariants.{Some}
-use Rattle.std.proofs.raw_atomic.Walks.{proved_at}
-use Rattle.std_alloc.proofs.BoxSteps.Form.{Bx, D, B, box_typed}
+use Rattle.sand_c.proofs.Common.{List, [], ◌∷◌, ◌++◌, refl, sym, subst, Val, SProp, ent, id⊢, ftrue, WpFn, ‵, raw, ◌⊛◌, ◌$◌, ◌∵◌, !, qed, keep, drop, use1, join, split, fsplit, fjoin, suffices, done, whole, sub, agg, stop, fld, no_more, and_then, of_opd, returns, enter, alloc_all, pass_all, free_all, look_at, get, get_in, sets, tables, yes, owns, block_ptr, Slot, plain, types_at, nothing, says, Stays, stay_dropped, walk_of, ends_at, Goes-dropped, Some, proved_at, Bx, D, B, box_typed, box_out, owns_at}
 use Rattle.std_alloc.proofs.BoxSteps.Form as box
-use Rattle.std_alloc.proofs.BoxSteps.Steps.{box_out}
 use Rattle.sand_c.proofs.HandleSteps.{handle_in, in_heap, parts_of, word}
 use Rattle.sand_c.specs.contracts.owned_pass.OwnedPass.{the_row as Held}
 use Rattle.sand_c.proofs.owned_pass.OwnedPass.TheLaws as held
 use Rattle.sand_c.specs.contracts.pass_handle.SandpilePass as Handle
-use Rattle.sand_c.specs.Handles.{owns_at}
 use Rattle.sand_c.specs.contracts.pass_handle.SandpilePass.of_parts.{ended, clauses}
 use Rattle.sand_c.specs.contracts.pass_handle.SandpilePass.of_parts.Key.{name as #self}
 use Rattle.sand_c.proofs.pass_handle.SandpilePass.of_parts.Statement.{statement}
