@@ -71,6 +71,25 @@ fn sees_what_is_high(rt: HostRuntime) {
     }
 }
 
+// Whether 13,000 grains at a site of an empty square count as high.
+fn is_heap_high(alloc: Global, site: usize) -> Option<bool> {
+    let shape = Shape::new(64, 64).ok()?;
+    let mut heights = vec![in alloc; 0u64; shape.sites()].ok()?;
+    *heights.get_mut(site)? = 13_000;
+    let pile = Pile::new(alloc, shape, &heights).ok()?;
+    Some(is_high(&pile))
+}
+
+#[test]
+fn sees_which_heap_is_high(rt: HostRuntime) {
+    // A plain queue was counted to take 400 turns per site if the heap is in the middle, 7 if it is at the middle of the
+    // west edge, and less than 1 if it is in a corner.
+    for (site, expected) in [(32 * 64 + 32, true), (32 * 64, false), (0, false)] {
+        let seen = is_heap_high(rt.alloc(), site);
+        assert!(rt; seen == Some(expected), "heap at {site}");
+    }
+}
+
 #[test]
 fn sees_what_is_flat(rt: HostRuntime) {
     for (most, expected) in [(100, true), (101, false)] {
