@@ -19,8 +19,8 @@ use sand_guess::{Claim, guessed, is_flat, is_high, is_small, swept, toppled};
 use sand_model::{Edge, Pile, Shape};
 use std::alloc::{AllocError, Global};
 
-// The turns that the queue has before a guess is tried: a number per site, and more in addition. They take a quarter of
-// the time of a guess.
+// The turns that the queue has before a guess is tried: a number per site, and more in addition. They take about as long
+// as a guess.
 const TURNS_BEFORE_A_GUESS: u64 = 16;
 
 const MORE_TURNS_BEFORE_A_GUESS: u64 = 512;
