@@ -81,7 +81,7 @@ def drawn(shape: tuple[int, int], seed: np.random.SeedSequence, edge: bool) -> R
     # NumPy takes twice as long to generate two numbers of 64 bits, the same ones, and to tell the address itself.
     low, high, stream_low, stream_high = listed(seed.generate_state(4))
     words = low | high << 32, stream_low | stream_high << 32
-    address = ctypes.addressof(ctypes.c_int64.from_buffer(heights))
+    address = ctypes.addressof(ctypes.c_int64.from_buffer(heights.data))
     call_at("sandpile_random", shape[1], shape[0], edge, *words, address, heights.size)
     return Recurrent._known(heights, edge)
 
