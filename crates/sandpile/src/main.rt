@@ -17,41 +17,26 @@ use std::thread::Threads;
 
 fn main(rt: HostRuntime) -> ExitCode {
     let alloc = rt.alloc();
-    match words_of(&rt, alloc) {
-        Ok(words) => run(
-            &rt,
-            alloc,
-            words.as_slice(),
-            rt.stdin(),
-            rt.stdout(),
-            rt.stderr(),
-        ),
+    let words = match words_of(&rt, alloc) {
+        Ok(words) => words,
         Err(error) if error.kind() == io::ErrorKind::OutOfMemory => {
-            report_fault(&rt, &mut rt.stderr(), &DeskFault::Memory)
+            return report_fault(&rt, &mut rt.stderr(), &DeskFault::Memory);
         }
         Err(_) => {
             let _ = rt.eprintln("error: an argument is not valid UTF-8");
-            ExitCode::from(2)
+            return ExitCode::from(2);
         }
-    }
-}
-
-// Does what the words ask for.
-fn run<
-    T: Threads + Sync + Eprint + Clock + Env,
-    R: Read + Drop,
-    W: Write + IsTerminal + Drop,
-    E: Write + IsTerminal + Drop,
->(rt: &T, alloc: Global, words: &[String], stdin: R, stdout: W, stderr: E) -> ExitCode {
+    };
+    let words = words.as_slice();
     if is_nothing(words) {
         return ExitCode::from(2);
     }
     match request_of(words) {
         Ok(request) => {
             let asked = Asked { request, words };
-            carry_out(rt, alloc, asked, stdin, stdout, stderr)
+            carry_out(&rt, alloc, asked, rt.stdin(), rt.stdout(), rt.stderr())
         }
-        Err(misuse) => report_misuse(rt, misuse),
+        Err(misuse) => report_misuse(&rt, misuse),
     }
 }
 
