@@ -1,10 +1,9 @@
 //! Writes what words may ask for instead of a command: its help, an explanation of faults, or the version, with the
 //! logic of the proofs, which is the same in several kits of Rattle.
 
-ghost use Rattle.std.specs.Prelude.{◌≡◌, ◌≢◌, ℕ, ◌≤◌, None, length, take, IfErr, OnOk};
-ghost use Rattle.std.specs.Io.KnownBytes.{Appends};
+ghost use Rattle.std.specs.Prelude.{◌≢◌, None, Some, IfErr, OnOk};
 ghost use Rattle.sand_commands.specs.Faults.{status_of};
-ghost use Rattle.sand_commands.specs.Help.{IsHelped, IsShown, IsUnhelped, IsUnshown};
+ghost use Rattle.sand_commands.specs.Help.{IsHelped, IsShown, IsShownInPart, IsUnhelped, IsUnshown};
 ghost use Rattle.sand_commands.specs.Version.{version_text};
 
 use crate::faults::DeskFault;
@@ -67,9 +66,8 @@ pub fn write_explain_help<W: Write>(writer: &mut W) -> Result<(), DeskFault>
 
 /// Writes the version. Allocates nothing. Fails if the writer fails (`Write`, with the number of bytes it took).
 pub fn write_version<W: Write>(writer: &mut W) -> Result<(), DeskFault>
-    ensures ok { OnOk result (Appends (W.contents writer.old) (W.contents writer.new) version_text) }
-    ensures err { IfErr result (λ e. (sent : ℕ) × (e ≡ DeskFault.Write sent) × (sent ≤ length version_text)
-        × Appends (W.contents writer.old) (W.contents writer.new) (take sent version_text)) }
+    ensures shown { OnOk result (IsShown (Some version_text) (W.contents writer.old) (W.contents writer.new)) }
+    ensures fault { IfErr result (IsShownInPart (Some version_text) (W.contents writer.old) (W.contents writer.new)) }
 {
     // `tools/try-examples` compares the logic with that of `rt version`.
     write_text(

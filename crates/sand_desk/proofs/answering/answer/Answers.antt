@@ -1,21 +1,22 @@
-use Rattle.sand_desk.proofs.Common.{map, string_bytes, IfErr-weaker, on_ok_weaker, None, [], keeps}
-use Rattle.sand_desk.proofs.OwnTexts.{unshown_tells, version_cut, version_written, write_tells}
+use Rattle.sand_desk.proofs.Common.{map, string_bytes, IfErr-weaker, on_ok_weaker, inl, Some, None, [], keeps}
+use Rattle.sand_commands.specs.Version.{version_text}
+use Rattle.sand_desk.proofs.OwnTexts.{unshown_tells}
 use Rattle.sand_desk.proofs.answering.answer.Goals as goal
 
 pub returns-in-Version : goal.returns-in-Version
-returns-in-Version g c = record {
-  done = rw c.in-Version.is
-      (on_ok_weaker c.write_version.result
-      (version_written (g.R.Read.remaining c.args.input.now) _ _) c.write_version.ensures.ok);
-  fault = rw c.in-Version.is
-      (IfErr-weaker c.write_version.result _ _
-      (version_cut (g.R.Read.remaining c.args.input.now) _ _) c.write_version.ensures.err);
-  told = IfErr-weaker c.write_version.result _ _
-      (λ fault cut. (write_tells (map string_bytes c.args.asked.words.now) fault cut.0 cut.1).0)
-      c.write_version.ensures.err;
-  status = IfErr-weaker c.write_version.result _ _
-      (λ fault cut. (write_tells [] fault cut.0 cut.1).1) c.write_version.ensures.err;
-}
+returns-in-Version g c =
+    let kept = keeps (g.R.Read.remaining c.args.input.now) in
+    record {
+      done = rw c.in-Version.is
+          (on_ok_weaker c.write_version.result (λ shown. (kept, shown)) c.write_version.ensures.shown);
+      fault = rw c.in-Version.is
+          (IfErr-weaker c.write_version.result _ _ (λ fault part. (kept, part)) c.write_version.ensures.fault);
+      told = IfErr-weaker c.write_version.result _ _
+          (λ fault part. (unshown_tells (map string_bytes c.args.asked.words.now) (Some version_text) _ _ fault (inl part)).0)
+          c.write_version.ensures.fault;
+      status = IfErr-weaker c.write_version.result _ _
+          (λ fault part. (unshown_tells [] (Some version_text) _ _ fault (inl part)).1) c.write_version.ensures.fault;
+    }
 
 pub returns-in-Explain : goal.returns-in-Explain
 returns-in-Explain g c =
