@@ -1,6 +1,7 @@
 //! What a writer gets in each call: a long text in blocks, a short one whole.
 
-use crate::gates::{Count, is_run};
+use crate::gates::{is_run, one_dropper};
+use sand_testing::counting::Count;
 use std::alloc::Global;
 use std::io;
 use std::io::Write;
@@ -16,7 +17,7 @@ struct Noting<'a> {
 
 impl Write for Noting<'_> {
     fn write(&mut self, bytes: &[u8]) -> io::Result<usize> {
-        self.calls.push((bytes.len(), self.gate.turns()))?;
+        self.calls.push((bytes.len(), self.gate.drops()))?;
         Ok(bytes.len())
     }
 
@@ -31,7 +32,7 @@ fn writes_of<T: Threads + Sync>(
     alloc: Global,
     line: &str,
 ) -> Result<Vec<(usize, u32)>, Fail> {
-    let gate = Count::new();
+    let gate = one_dropper();
     let mut writer = Noting {
         gate: &gate,
         calls: Vec::new(alloc),
@@ -46,7 +47,7 @@ fn writes_of<T: Threads + Sync>(
 // more. Each waits for one more row, whose drop has had its turn by then.
 #[test]
 fn a_full_block_is_written_after_the_turn_of_the_next_drop(rt: HostRuntime) -> Result<(), Fail> {
-    let line = "sandpile drops --count 10000 --from 1000000 --table";
+    let line = "drops --count 10000 --from 1000000 --table";
     let writes = writes_of(&rt, rt.alloc(), line)?;
     assert!(rt; writes.len() == 3);
     assert_eq!(rt;
@@ -59,9 +60,9 @@ fn a_full_block_is_written_after_the_turn_of_the_next_drop(rt: HostRuntime) -> R
 #[test]
 fn a_short_text_is_one_write(rt: HostRuntime) -> Result<(), Fail> {
     for (line, bytes, turns) in [
-        ("sandpile drops --count 3 --from 1000000", 112, 3),
-        ("sandpile lab --droppers 1 --drops 3", 75, 3),
-        ("sandpile settle", 36, 0),
+        ("drops --count 3 --from 1000000", 112, 3),
+        ("lab --droppers 1 --drops 3", 75, 3),
+        ("settle", 36, 0),
     ] {
         let writes = writes_of(&rt, rt.alloc(), line)?;
         assert_eq!(rt; writes.as_slice(), [(bytes, turns)].as_slice(), "{line}");

@@ -1,4 +1,4 @@
-//! Fault lines that no command writes. The names and numbers are in docs/FORMATS.md.
+//! Fault lines that no command writes, and the numbers of faults. Names and numbers are in docs/FORMATS.md.
 
 use crate::readings::has_line;
 use crate::runs::{fault_of, sent};
@@ -8,6 +8,7 @@ use sand_desk::DeskFault::{
     TooLong, TooManyGrains, Unstable, Write,
 };
 use sand_desk::{DeskFault, status, write_fault};
+use sand_text::{ReadFault, StreamFault, TextFault};
 use std::test::Fail;
 
 #[test]
@@ -29,7 +30,7 @@ fn lines_that_no_command_writes(rt: HostRuntime) {
 fn a_line_that_does_not_fit(rt: HostRuntime) {
     let mut writer = Sluggish::new(rt.alloc(), 7);
     let written = write_fault(&Write(44), &mut writer);
-    assert!(rt; written.err().map(sent) == Some(Some(7)));
+    assert!(rt; sent(written.err()) == Some(7));
     assert!(rt; writer.taken.as_slice() == b"fault 2".as_slice());
 }
 
@@ -71,16 +72,41 @@ fn what_a_fault_says(rt: HostRuntime) -> Result<(), Fail> {
 
 #[test]
 fn numbers_and_statuses_of_misuse_and_of_help(rt: HostRuntime) -> Result<(), Fail> {
-    for (line, expected) in [
-        ("sandpile", 2),
-        ("sandpile settle --pile --pgm", 2),
-        ("sandpile --help", 0),
-    ] {
+    for (line, expected) in [("", 2), ("settle --pile --pgm", 2), ("--help", 0)] {
         let mut reader = Failing(b"", true);
         let mut writer = Sluggish::new(rt.alloc(), 0);
         let fault = fault_of(&rt, rt.alloc(), line, &mut reader, &mut writer)?;
-        assert_eq!(rt; (fault.number(), status(&fault)), (23, expected));
-        drop(fault);
+        let told = fault.map(|fault| (fault.number(), status(&fault)));
+        assert_eq!(rt; told, Some((23, expected)));
     }
     Ok(())
+}
+
+#[test]
+fn numbers_of_the_faults_of_texts(rt: HostRuntime) {
+    for (fault, number) in [
+        (TextFault::Side, 1),
+        (TextFault::Length, 2),
+        (TextFault::TooManyGrains, 3),
+        (TextFault::Text(7), 18),
+        (TextFault::TooLarge(7), 19),
+        (TextFault::Narrow, 24),
+        (TextFault::NoSite(7), 25),
+    ] {
+        assert!(rt; fault.number() == number);
+        assert!(rt; ReadFault::Text(fault).number() == number);
+    }
+    assert!(rt; ReadFault::Memory.number() == 4);
+}
+
+#[test]
+fn numbers_of_the_faults_of_streams(rt: HostRuntime) {
+    for (fault, number) in [
+        (StreamFault::Memory, 4),
+        (StreamFault::Read, 20),
+        (StreamFault::Write(7), 21),
+        (StreamFault::TooLong, 22),
+    ] {
+        assert!(rt; fault.number() == number);
+    }
 }

@@ -3,8 +3,8 @@
 //!
 //! `stopping` has the readers and the writer. They are not tests: each proves that it tells its bytes.
 //!
-//! Large values are dropped by `drop`. If one goes out of scope instead, the function's proof takes it apart field by
-//! field, on each way out.
+//! Large values are mostly dropped by `drop`. If one goes out of scope instead, the function's proof takes it apart field
+//! by field, on each way out.
 #![tactic(auto)]
 
 #[cfg(test)]
@@ -16,13 +16,9 @@ mod flow;
 #[cfg(test)]
 mod gates;
 #[cfg(test)]
-mod help;
-#[cfg(test)]
 mod journal;
 #[cfg(test)]
 mod pictures;
-#[cfg(test)]
-mod piles;
 #[cfg(test)]
 mod readings;
 #[cfg(test)]
@@ -31,5 +27,3 @@ mod runs;
 mod stopping;
 #[cfg(test)]
 mod streams;
-#[cfg(test)]
-mod text_faults;

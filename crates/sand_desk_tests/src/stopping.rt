@@ -1,7 +1,7 @@
-//! For the tests: readers and a writer that stop, and a reader that does not.
+//! For the tests: readers and a writer that stop, and move few bytes per call.
 //!
 //! A contract of a command says most if the contents of its reader and writer are known. So these specify theirs: what
-//! the writer has taken, and what a reader has left. The endless reader cannot.
+//! the writer has taken, and what a reader has left. A reader that only counts cannot.
 
 ghost use Rattle.std.specs.Prelude.{Some};
 
@@ -9,23 +9,27 @@ use std::alloc::Global;
 use std::io;
 use std::io::{ErrorKind, Read, Write};
 
-/// Takes one byte per call, and stops after `room` bytes.
+/// Takes at most `step` bytes per call, up to `room` bytes; then fails, or takes nothing, once. Counts its calls.
 #[derive(Drop)]
 pub struct Sluggish {
     pub taken: Vec<u8>,
+    pub calls: usize,
+    pub step: usize,
     pub room: usize,
-    /// Whether it then returns 0 instead of an error.
-    pub is_full: bool,
+    /// How it fails; if not at all, it takes nothing.
+    pub failure: Option<ErrorKind>,
     pub flushes: bool,
 }
 
 impl Sluggish {
-    /// A writer that has taken nothing yet, and stops with an error.
+    /// A writer that has taken nothing yet, takes one byte per call, and stops with an error.
     pub fn new(alloc: Global, room: usize) -> Sluggish {
         Sluggish {
             taken: Vec::new(alloc),
+            calls: 0,
+            step: 1,
             room,
-            is_full: false,
+            failure: Some(ErrorKind::Other),
             flushes: true,
         }
     }
@@ -35,18 +39,18 @@ impl Write for Sluggish {
     ghost contents = { λ w. Some w.taken.items };
 
     fn write(&mut self, bytes: &[u8]) -> io::Result<usize> {
-        let Some(first) = bytes.first() else {
-            return Ok(0);
-        };
-        if self.taken.len() >= self.room {
-            return if self.is_full {
-                Ok(0)
-            } else {
-                Err(io::Error::from(ErrorKind::Other))
+        self.calls = self.calls.saturating_add(1);
+        let room = self.room.saturating_sub(self.taken.len());
+        if room == 0 {
+            self.room = usize::MAX;
+            return match self.failure {
+                Some(kind) => Err(io::Error::from(kind)),
+                None => Ok(0),
             };
         }
-        self.taken.push(*first)?;
-        Ok(1)
+        let count = bytes.len().min(self.step).min(room);
+        self.taken.extend_from_slice(&bytes[..count])?;
+        Ok(count)
     }
 
     fn flush(&mut self) -> io::Result<()> {
@@ -94,19 +98,24 @@ impl Read for Cut<'_> {
     }
 }
 
-/// Gives one space per call, forever, and counts them.
+/// Gives `left` spaces, at most `step` per call; fails in call `fails_at`. Counts its calls.
 #[derive(Drop)]
-pub struct Endless {
-    pub given: usize,
+pub struct Giver {
+    pub left: usize,
+    pub step: usize,
+    pub calls: usize,
+    pub fails_at: usize,
 }
 
-impl Read for Endless {
+impl Read for Giver {
     fn read(&mut self, room: &mut [u8]) -> io::Result<usize> {
-        let Some(slot) = room.first_mut() else {
-            return Ok(0);
-        };
-        *slot = b' ';
-        self.given = self.given.saturating_add(1);
-        Ok(1)
+        self.calls = self.calls.saturating_add(1);
+        if self.calls == self.fails_at {
+            return Err(io::Error::from(ErrorKind::Interrupted));
+        }
+        let count = self.left.min(self.step).min(room.len());
+        room[..count].fill(b' ');
+        self.left -= count;
+        Ok(count)
     }
 }

@@ -1,9 +1,10 @@
-//! Commands with readers that fail and writers that stop.
+//! Commands and help with readers that fail and writers that stop.
 
-use crate::runs::{fault_of, passes, sent};
-use crate::stopping::{Cut, Endless, Failing, Sluggish};
+use crate::runs::{fault_of, sent};
+use crate::stopping::{Cut, Failing, Giver, Sluggish};
+use sand_desk::show_help;
 use std::alloc::Global;
-use std::io::Read;
+use std::io::{ErrorKind, Read};
 use std::process::Abort;
 use std::test::Fail;
 use std::thread::Threads;
@@ -13,17 +14,19 @@ const READ: Option<u32> = Some(20);
 
 const TOO_LONG: Option<u32> = Some(22);
 
-const SETTLE: &str = "sandpile settle";
+const SETTLE: &str = "settle";
 
 const PILE: &[u8] = b"3 1\n0 4 0\n";
 
 const SETTLED: &[u8] = b"3 1\n1 0 1\nodometer\n0 1 0\nlost 2\ntopplings 1\n";
 
-const JOURNAL: &[u8] =
+const RUN: &[u8] =
     b"epoch drops topplings lost grains\n0 2 0 0 2\ntotal 2 0 0 2\n1 1\n2\nodometer\n0\njournal\n0 0 0 0\n0 1 0 0\n";
 
 const DROPS: &[u8] =
     b"number site size area reach lost\n3 1 1 1 0 3\n4 0 0 0 0 0\n5 1 0 0 0 0\n2 1\n2 1\nlost 3\ntopplings 1\n";
+
+const FAILURES: [Option<ErrorKind>; 2] = [Some(ErrorKind::Other), None];
 
 // However a writer stops, it has the first bytes of the text, and the fault says how many.
 fn stops<T: Threads + Sync + Abort>(
@@ -32,11 +35,11 @@ fn stops<T: Threads + Sync + Abort>(
     line: &str,
     bytes: &[u8],
     taken: &[u8],
-    is_full: bool,
+    failure: Option<ErrorKind>,
 ) -> Result<(), Fail> {
     let mut reader = Failing(bytes, false);
     let mut writer = Sluggish::new(alloc, taken.len());
-    writer.is_full = is_full;
+    writer.failure = failure;
     let fault = fault_of(rt, alloc, line, &mut reader, &mut writer)?;
     assert_eq!(rt; sent(fault), Some(taken.len()));
     assert_eq!(rt; writer.taken.as_slice(), taken);
@@ -47,20 +50,12 @@ fn stops<T: Threads + Sync + Abort>(
 fn a_writer_that_stops(rt: HostRuntime) -> Result<(), Fail> {
     for (line, stdin, stdout) in [
         (SETTLE, PILE, SETTLED),
-        (
-            "sandpile lab --droppers 1 --drops 2 --journal",
-            b"1 1\n0\n",
-            JOURNAL,
-        ),
-        (
-            "sandpile drops --count 3 --stream 1 --from 3",
-            b"2 1\n0 3\n",
-            DROPS,
-        ),
+        ("lab --droppers 1 --drops 2 --journal", b"1 1\n0\n", RUN),
+        ("drops --count 3 --stream 1 --from 3", b"2 1\n0 3\n", DROPS),
     ] {
         for room in 0..stdout.len() {
-            for is_full in [false, true] {
-                stops(&rt, rt.alloc(), line, stdin, &stdout[..room], is_full)?;
+            for failure in FAILURES {
+                stops(&rt, rt.alloc(), line, stdin, &stdout[..room], failure)?;
             }
         }
     }
@@ -68,7 +63,7 @@ fn a_writer_that_stops(rt: HostRuntime) -> Result<(), Fail> {
 }
 
 // The text of these random drops has more than two blocks of 65,536 bytes.
-const LONG: &str = "sandpile drops --count 10000 --seed 5";
+const LONG: &str = "drops --count 10000 --seed 5";
 
 const FULL: &[u8] = b"2 2\n3 3\n3 3\n";
 
@@ -76,14 +71,15 @@ const FULL: &[u8] = b"2 2\n3 3\n3 3\n";
 fn a_writer_that_stops_in_a_later_block(rt: HostRuntime) -> Result<(), Fail> {
     let mut whole = Sluggish::new(rt.alloc(), 1_000_000);
     let mut reader = Failing(FULL, false);
-    passes(&rt, rt.alloc(), LONG, &mut reader, &mut whole)?;
+    let fault = fault_of(&rt, rt.alloc(), LONG, &mut reader, &mut whole)?;
+    assert!(rt; fault.is_none());
     let text = whole.taken.as_slice();
     assert!(rt; text.len() > 131_072 + 5_376);
     let last = text.len().saturating_sub(1);
     for room in [65_535, 65_536, 70_912, 100_000, 131_072, last] {
         let taken = &text[..room.min(last)];
-        for is_full in [false, true] {
-            stops(&rt, rt.alloc(), LONG, FULL, taken, is_full)?;
+        for failure in FAILURES {
+            stops(&rt, rt.alloc(), LONG, FULL, taken, failure)?;
         }
     }
     Ok(())
@@ -97,9 +93,8 @@ fn unwritten<T: Threads + Sync, R: Read>(
 ) -> Result<Option<u32>, Fail> {
     let mut writer = Sluggish::new(alloc, 100);
     let fault = fault_of(rt, alloc, SETTLE, reader, &mut writer)?;
-    let number = fault.number();
-    drop(fault);
-    Ok(writer.taken.is_empty().then_some(number))
+    let number = fault.map(|fault| fault.number());
+    Ok(number.filter(|_| writer.taken.is_empty()))
 }
 
 #[test]
@@ -118,19 +113,54 @@ fn a_writer_that_cannot_flush(rt: HostRuntime) -> Result<(), Fail> {
 fn a_reader_that_fails_after_some_bytes(rt: HostRuntime) -> Result<(), Fail> {
     for count in 0..PILE.len() + 1 {
         let bytes = &PILE[..count];
-        let number = unwritten(&rt, rt.alloc(), &mut Failing(bytes, true))?;
-        assert_eq!(rt; number, READ, "after {count}");
-        let number = unwritten(&rt, rt.alloc(), &mut Cut(bytes))?;
-        assert_eq!(rt; number, READ, "in the first or second call, after {count}");
+        let one_by_one = unwritten(&rt, rt.alloc(), &mut Failing(bytes, true))?;
+        let at_once = unwritten(&rt, rt.alloc(), &mut Cut(bytes))?;
+        assert_eq!(rt; [one_by_one, at_once], [READ; 2], "after {count}");
     }
     Ok(())
 }
 
 #[test]
 fn spaces_without_end(rt: HostRuntime) -> Result<(), Fail> {
-    let mut reader = Endless { given: 0 };
+    let mut reader = Giver {
+        left: usize::MAX,
+        step: 1,
+        calls: 0,
+        fails_at: 0,
+    };
     let number = unwritten(&rt, rt.alloc(), &mut reader)?;
-    assert_eq!(rt; number, TOO_LONG);
-    assert!(rt; reader.given == 1_048_577);
+    assert_eq!(rt; (number, reader.calls), (TOO_LONG, 1_048_577));
+    Ok(())
+}
+
+// The number of bytes of the help of `settle` written before the writer failed, if it did.
+fn helps<T: Threads + Sync>(
+    rt: &T,
+    alloc: Global,
+    writer: &mut Sluggish,
+) -> Result<Option<usize>, Fail> {
+    let mut reader = Failing(b"", true);
+    let asked = fault_of(rt, alloc, "settle --help", &mut reader, writer)?;
+    let asked = asked.ok_or("no help")?;
+    Ok(sent(show_help(alloc, asked, writer).err()))
+}
+
+#[test]
+fn a_writer_that_stops_in_help(rt: HostRuntime) -> Result<(), Fail> {
+    let start = b"Settles a pile: topples sites until each has at most 3 grains\n";
+    for room in 0..start.len() {
+        let mut writer = Sluggish::new(rt.alloc(), room);
+        assert_eq!(rt; helps(&rt, rt.alloc(), &mut writer)?, Some(room));
+        assert_eq!(rt; writer.taken.as_slice(), &start[..room]);
+    }
+    Ok(())
+}
+
+#[test]
+fn help_that_cannot_be_flushed(rt: HostRuntime) -> Result<(), Fail> {
+    let mut writer = Sluggish::new(rt.alloc(), 10_000);
+    writer.flushes = false;
+    let after = helps(&rt, rt.alloc(), &mut writer)?;
+    assert!(rt; after > Some(100) && after == Some(writer.taken.len()));
     Ok(())
 }

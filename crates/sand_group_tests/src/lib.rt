@@ -1,8 +1,8 @@
 //! Tests of `sand_group` and the layers below it: values worked out by hand, and guesses, since no contract says that a
 //! guess is made or right.
 //!
-//! Large values are dropped by `drop`. If one goes out of scope instead, the function's proof takes it apart field by
-//! field, on each way out.
+//! Large values are mostly dropped by `drop`. If one goes out of scope instead, the function's proof takes it apart field
+//! by field, on each way out.
 #![tactic(auto)]
 
 #[cfg(test)]

@@ -6,10 +6,10 @@ ghost use Rattle.std.specs.Thread.{IsSync};
 ghost use Rattle.sand_shared.specs.Passes.{IsPassOf};
 
 use sand_model::Pile;
-use sand_shared::{Pass, Record, SharedPile, SiteCounts};
+use sand_shared::{Pass, SharedPile, SiteCounts};
 use sand_testing::meeting::Meeting;
 use sand_testing::piles::open_pile;
-use sand_testing::records::is_record;
+use sand_testing::records::is_settled;
 use std::alloc::Global;
 use std::test::Fail;
 use std::thread::{Threads, join};
@@ -119,30 +119,20 @@ const ODOMETER: [u64; 24] = [
     4, 3, 2, 3, 4, 3, 4, 6, 4, 5, 12, 5, 4, 6, 4, 3, 4, 3, 2, 3, 2, 1, 2, 1,
 ];
 
-// The record of eight threads that drop four grains each, and sweep.
-fn closed_by_eight<R: Threads + Sync>(rt: &R, alloc: Global, start: &Pile) -> Option<Record> {
+// Whether eight threads that drop four grains each, and sweep, have the same result as one.
+fn are_as_one<R: Threads + Sync>(rt: &R, alloc: Global, start: &Pile) -> Option<bool> {
     let (pile, pass) = SharedPile::new(alloc, start, 32).ok()?;
     let meeting = Meeting::new();
     let pass = crew((rt, alloc), start, &pile, &meeting, pass, 3)?;
-    pile.close(alloc, pass).ok()
-}
-
-// Whether eight threads have the same result as one.
-fn are_as_one<R: Threads + Sync>(rt: &R, alloc: Global, start: &Pile) -> bool {
-    closed_by_eight(rt, alloc, start).is_some_and(|record| is_record(
-        &record,
-        record.history(),
-        &HEIGHTS,
-        &ODOMETER,
-        63,
-    ))
+    let record = pile.close(alloc, pass).ok()?;
+    Some(is_settled(record.settled(), &HEIGHTS, &ODOMETER, 63))
 }
 
 #[test]
 fn eight_threads_are_as_one(rt: HostRuntime) -> Result<(), Fail> {
     let start = open_pile(rt.alloc(), 3, 8, &[3; 24])?;
     for _ in 0..ROUNDS {
-        assert!(rt; are_as_one(&rt, rt.alloc(), &start));
+        assert!(rt; are_as_one(&rt, rt.alloc(), &start) == Some(true));
     }
     drop(start);
     Ok(())

@@ -1,14 +1,11 @@
 //! Passes that hand on rows and quotas, and endings that fail until everything is gathered.
 
 use sand_testing::pile_with_passes::Call::{
-    DropAt, IntoBare, IsWhole, Join, JoinAll, JoinBare, Receipt, Rows, Split, SplitRows, Sweep,
-    Tally, ThrowAway,
+    DropAt, IntoBare, IsWhole, Join, JoinAll, JoinBare, Receipt, Rows, Split, SplitRows,
+    StillMissing, Sweep, Tally, ThrowAway,
 };
 use sand_testing::pile_with_passes::Returned::{Between, Done, Dropped, Fault, Is, Number};
-use sand_testing::pile_with_passes::{
-    ENDINGS, Ending, Left, PileWithPasses, Start, both_leave, is_there,
-};
-use std::alloc::Global;
+use sand_testing::pile_with_passes::{Ending, Left, PileWithPasses, Start, both_leave, is_there};
 
 // Three rows of one site each.
 const ROWS: Start<'static> = Start((1, 3), &[0, 0, 0], 0);
@@ -48,7 +45,6 @@ fn rows_are_joined_from_the_last_one(rt: HostRuntime) {
 // The list has a drop, the last row and the middle one. The last row is refused until the middle one is there.
 #[test]
 fn a_list_is_joined_up_to_rows_that_are_apart(rt: HostRuntime) {
-    let start = Start((1, 3), &[0, 0, 0], 1);
     let calls = [
         (Split(0, 1), Done),
         (DropAt(1, 2), Number(0)),
@@ -63,6 +59,7 @@ fn a_list_is_joined_up_to_rows_that_are_apart(rt: HostRuntime) {
         (JoinAll(0), Done),
         (IsWhole(0), Is(true)),
     ];
+    let start = Start((1, 3), &[0, 0, 0], 1);
     assert!(rt; is_there(PileWithPasses::played(rt.alloc(), start, &calls)));
 }
 
@@ -75,35 +72,28 @@ fn rows_that_are_thrown_away_stay_missing(rt: HostRuntime) {
             (SplitRows(0, 1), Done),
             (ThrowAway(lost), Done),
             (Join(0, 1), joined),
+            (StillMissing(1), Done),
         ];
-        let pile = PileWithPasses::played(rt.alloc(), ROWS, &calls).expect(&rt, "three rows");
-        assert!(rt; is_there(pile.still_missing(rt.alloc())));
+        assert!(rt; is_there(PileWithPasses::played(rt.alloc(), ROWS, &calls)));
     }
 }
 
-// Whether a pile, with its quota and last row split off to two children, ends once both are joined and not before.
-fn ends_once_gathered(alloc: Global, ending: Ending) -> Option<bool> {
-    let start = Start((1, 2), &[0, 0], 1);
-    let left = Left(&[1], &[0, 1], &[0, 0], 0);
-    let split = [
+// The quota and the last row are split off to two children. The pile ends once both are joined, and not before.
+#[test]
+fn ends_once_all_is_gathered(rt: HostRuntime) {
+    let calls = [
         (SplitRows(0, 1), Done),
         (Split(0, 1), Done),
         (DropAt(2, 1), Number(0)),
         (IsWhole(0), Is(false)),
+        (StillMissing(1), Done),
+        (Join(0, 2), Done),
+        (StillMissing(1), Done),
+        (Join(0, 1), Done),
+        (IsWhole(0), Is(true)),
     ];
-    let pile = PileWithPasses::played(alloc, start, &split)?.still_missing(alloc)?;
-    let pile = pile
-        .play(alloc, &[(Join(0, 2), Done)])?
-        .still_missing(alloc)?;
-    let pile = pile.play(alloc, &[(Join(0, 1), Done), (IsWhole(0), Is(true))])?;
-    Some(pile.leaves(alloc, ending, left))
-}
-
-#[test]
-fn ends_once_all_is_gathered(rt: HostRuntime) {
-    for ending in ENDINGS {
-        assert!(rt; ends_once_gathered(rt.alloc(), ending) == Some(true));
-    }
+    let left = Left(&[1], &[0, 1], &[0, 0], 0);
+    assert!(rt; both_leave(rt.alloc(), Start((1, 2), &[0, 0], 1), &calls, left));
 }
 
 #[test]
@@ -112,12 +102,10 @@ fn a_receipt_that_is_thrown_away_stays_missing(rt: HostRuntime) {
         (Split(0, 1), Done),
         (DropAt(1, 0), Number(0)),
         (ThrowAway(1), Done),
+        (StillMissing(1), Done),
+        (Tally(0), Number(1)),
     ];
-    let pile = PileWithPasses::played(rt.alloc(), Start((1, 1), &[0], 1), &calls).expect(
-        &rt, "a drop",
-    );
-    let pile = pile.still_missing(rt.alloc()).expect(&rt, "a receipt");
-    assert!(rt; is_there(pile.play(rt.alloc(), &[(Tally(0), Number(1))])));
+    assert!(rt; is_there(PileWithPasses::played(rt.alloc(), Start((1, 1), &[0], 1), &calls)));
 }
 
 #[test]
@@ -131,40 +119,30 @@ fn a_child_that_had_nothing_may_be_thrown_away(rt: HostRuntime) {
     assert!(rt; both_leave(rt.alloc(), Start((1, 1), &[0], 1), &calls, left));
 }
 
-// Whether a pile still ends after both endings failed a hundred times.
-fn ends_after_refusals(alloc: Global, ending: Ending) -> Option<bool> {
-    let split = [(Split(0, 1), Done), (DropAt(1, 0), Number(0))];
-    let mut pile = PileWithPasses::played(alloc, Start((1, 1), &[3], 1), &split)?;
-    for _ in 0..100 {
-        pile = pile.still_missing(alloc)?;
-    }
-    let pile = pile.play(alloc, &[(Join(0, 1), Done)])?;
-    let left = Left(&[0], &[0], &[1], 4);
-    Some(pile.leaves(alloc, ending, left))
-}
-
 #[test]
 fn ends_after_a_hundred_refusals(rt: HostRuntime) {
-    for ending in ENDINGS {
-        assert!(rt; ends_after_refusals(rt.alloc(), ending) == Some(true));
-    }
+    let calls = [
+        (Split(0, 1), Done),
+        (DropAt(1, 0), Number(0)),
+        (StillMissing(100), Done),
+        (Join(0, 1), Done),
+    ];
+    let left = Left(&[0], &[0], &[1], 4);
+    assert!(rt; both_leave(rt.alloc(), Start((1, 1), &[3], 1), &calls, left));
 }
 
 // The upper row topples twice in place. The lower one then has 9 grains, which remain to be settled.
 #[test]
 fn bare_passes_are_gathered_and_settled(rt: HostRuntime) {
-    let start = Start((1, 2), &[8, 7], 0);
-    let left = Left(&[], &[2, 1], &[0, 2], 6);
     let upper = [
         (SplitRows(0, 1), Done),
         (Sweep(0), Number(2)),
         (IntoBare(0), Done),
     ];
     let lower = [(IntoBare(0), Done), (JoinBare, Done)];
-    let pile = PileWithPasses::played(rt.alloc(), start, &upper).expect(&rt, "two rows");
-    let pile = pile
-        .misses(rt.alloc(), Ending::SettleRest)
-        .expect(&rt, "the lower row");
-    let pile = pile.play(rt.alloc(), &lower).expect(&rt, "one pass");
-    assert!(rt; pile.leaves(rt.alloc(), Ending::SettleRest, left));
+    let pile = PileWithPasses::played(rt.alloc(), Start((1, 2), &[8, 7], 0), &upper);
+    let pile = pile.and_then(|pile| pile.misses(rt.alloc(), Ending::SettleRest));
+    let pile = pile.and_then(|pile| pile.play(rt.alloc(), &lower));
+    let left = Left(&[], &[2, 1], &[0, 2], 6);
+    assert!(rt; pile.is_some_and(|pile| pile.leaves(rt.alloc(), Ending::SettleRest, left)));
 }

@@ -1,6 +1,7 @@
 //! A gate that holds threads until others have begun a turn. They pass it only if they run at the same time.
 
 use sand_lab::{Gate, Role};
+use std::alloc::{AllocError, Global};
 use std::sync::atomic::AtomicBool;
 use std::sync::atomic::Ordering::SeqCst;
 
@@ -8,26 +9,18 @@ use std::sync::atomic::Ordering::SeqCst;
 const PATIENCE: u64 = 1_000_000_000;
 
 /// A turn of a thread: its role, its number in that role, and the number of the turn.
-#[derive(Clone, Copy, PartialEq, Eq)]
+#[derive(Clone, Copy, Debug, PartialEq, Eq)]
 pub struct Turn(Role, u32, u32);
 
-/// A turn at which a thread is held until another turn has begun.
+// A turn at which a thread is held until another turn has begun.
 #[derive(Drop)]
-pub struct Hold {
+struct Hold {
     held: Turn,
     until: Turn,
     begun: AtomicBool,
 }
 
 impl Hold {
-    pub fn new(held: Turn, until: Turn) -> Hold {
-        Hold {
-            held,
-            until,
-            begun: AtomicBool::new(false),
-        }
-    }
-
     // Returns true once the awaited turn has begun, and false if it does not begin.
     fn has_begun(&self) -> bool {
         for _ in 0..PATIENCE {
@@ -39,29 +32,36 @@ impl Hold {
     }
 }
 
-/// Holds, and whether one of them released its thread early.
+/// Turns, each held until the next one of the list has begun, and whether a thread was released early. A list may have
+/// a turn several times.
 #[derive(Drop)]
-pub struct Holds<'a> {
-    holds: &'a [Hold],
+pub struct Chain {
+    holds: Vec<Hold>,
     failed: AtomicBool,
 }
 
-impl<'a> Holds<'a> {
-    pub fn new(holds: &'a [Hold]) -> Holds<'a> {
-        Holds {
-            holds,
-            failed: AtomicBool::new(false),
+impl Chain {
+    pub fn new(alloc: Global, turns: &[Turn]) -> Result<Chain, AllocError> {
+        let mut holds = Vec::new(alloc);
+        for (held, until) in turns.iter().zip(turns.iter().skip(1)) {
+            holds.push(Hold {
+                held: *held,
+                until: *until,
+                begun: AtomicBool::new(false),
+            })?;
         }
+        let failed = AtomicBool::new(false);
+        Ok(Chain { holds, failed })
     }
 
     /// Whether no thread was released early.
-    pub fn have_held(&self) -> bool {
+    pub fn has_held(&self) -> bool {
         !self.failed.load(SeqCst)
     }
 
     // Tells the holds that wait for this turn that it has begun.
     fn begin(&self, turn: Turn) {
-        for hold in self.holds {
+        for hold in &self.holds {
             if hold.until == turn {
                 hold.begun.store(true, SeqCst);
             }
@@ -69,11 +69,11 @@ impl<'a> Holds<'a> {
     }
 }
 
-impl Gate for Holds<'_> {
+impl Gate for Chain {
     fn turn(&self, role: Role, who: u32, turn: u32) {
         let turn = Turn(role, who, turn);
         self.begin(turn);
-        for hold in self.holds {
+        for hold in &self.holds {
             if hold.held == turn && !hold.has_begun() {
                 self.failed.store(true, SeqCst);
             }

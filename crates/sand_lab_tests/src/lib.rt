@@ -1,8 +1,8 @@
 //! Tests of `sand_shared` and `sand_lab`: worked examples, and what no clause says: that a call succeeds, that threads
 //! really meet, and that a run calls its gate before each turn.
 //!
-//! Large values are dropped by `drop`. If one goes out of scope instead, the function's proof takes it apart field by
-//! field, on each way out.
+//! Large values are mostly dropped by `drop`. If one goes out of scope instead, the function's proof takes it apart field
+//! by field, on each way out.
 #![tactic(auto)]
 
 #[cfg(test)]
@@ -18,11 +18,9 @@ mod gathering;
 #[cfg(test)]
 mod holding;
 #[cfg(test)]
-mod plan;
+mod limits;
 #[cfg(test)]
 mod records;
-#[cfg(test)]
-mod refusals;
 #[cfg(test)]
 mod runs;
 #[cfg(test)]
@@ -31,8 +29,6 @@ mod setup;
 mod streams;
 #[cfg(test)]
 mod sweeping;
-#[cfg(test)]
-mod sweeps;
 #[cfg(test)]
 mod turns;
 #[cfg(test)]

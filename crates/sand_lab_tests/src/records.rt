@@ -1,45 +1,24 @@
 //! Records that are copied and continued.
 
 use sand_shared::Record;
-use sand_testing::records::{is_record, may_follow};
-use sand_testing::shared::{dropped_on, dropped_on_a_site};
+use sand_testing::records::{dropped_on_a_site, is_four, is_record, is_three, one_more};
 use std::alloc::Global;
 use std::test::Fail;
 
-// The first record followed by one more drop.
-fn after_the_first(alloc: Global, first: &Record) -> Result<Record, Fail> {
-    let next = dropped_on(alloc, first.pile(), 1)?;
-    if !may_follow(first, &next) {
-        return Err("too many grains".into());
-    }
-    Ok(first.followed_by(alloc, &next)?)
-}
-
-// A record with one more drop appended.
-fn grown(alloc: Global, mut record: Record) -> Result<Record, Fail> {
-    let next = dropped_on(alloc, record.pile(), 1)?;
-    if !may_follow(&record, &next) {
-        return Err("too many grains".into());
-    }
+// Whether a record is right with one more drop appended.
+fn grows(alloc: Global, mut record: Record) -> Result<bool, Fail> {
+    let next = one_more(alloc, &record)?;
     record.append(alloc, &next)?;
-    Ok(record)
-}
-
-fn is_three(record: &Record) -> bool {
-    is_record(record, &[0, 0, 0], &[3], &[0], 0)
-}
-
-fn is_four(record: Record) -> bool {
-    let is_four = is_record(&record, &[0, 0, 0, 0], &[0], &[1], 4);
-    drop(record);
-    is_four
+    Ok(is_four(&record))
 }
 
 // Whether three drops have the right continuation, by a new record and by a copy that grows.
 fn is_continued(alloc: Global, first: &Record) -> Result<bool, Fail> {
-    let is_both = is_four(after_the_first(alloc, first)?);
-    let roomy = first.copy_with_room(alloc, 1)?;
-    Ok(is_four(grown(alloc, roomy)?) && is_both)
+    let next = one_more(alloc, first)?;
+    let both = first.followed_by(alloc, &next);
+    drop(next);
+    let is_followed = is_four(&both?);
+    Ok(grows(alloc, first.copy_with_room(alloc, 1)?)? && is_followed)
 }
 
 // Three drops on an empty site, then one that topples it.
@@ -58,10 +37,10 @@ fn one_record_after_another(rt: HostRuntime) -> Result<(), Fail> {
 fn a_shared_history_grows_in_one_record_alone(rt: HostRuntime) -> Result<(), Fail> {
     let record = dropped_on_a_site(rt.alloc(), 0, 3)?;
     let (one, other) = record.twice(rt.alloc())?;
-    let grown = grown(rt.alloc(), one);
+    let grows = grows(rt.alloc(), one);
     assert!(rt; is_three(&other));
     drop(other);
-    assert!(rt; is_four(grown?));
+    assert!(rt; grows?);
     Ok(())
 }
 

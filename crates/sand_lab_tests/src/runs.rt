@@ -1,24 +1,20 @@
 //! Runs on piles worked out by hand. The result does not depend on how the work is spread over threads, or on the order
 //! of their turns.
 
-use crate::setup::{Left, TWO_EPOCHS, leaves, run_gated};
-use sand_lab::Open;
-use sand_model::{Edge, GRAIN_LIMIT};
+use crate::setup::{TWO_EPOCHS, run_gated};
+use sand_lab::{LabFault, Open, Wish};
+use sand_model::{Edge, GRAIN_LIMIT, Pile};
 use sand_testing::piles::{one_site, open_pile, pile_on};
-use sand_testing::records::is_record;
+use sand_testing::records::{is_record, is_settled};
 use sand_testing::wish;
+use std::alloc::Global;
 use std::test::Fail;
+use std::thread::Threads;
 
 // Whether these are sixteen tallies of six drops that never decrease.
 fn climbs(tallies: &[u64]) -> bool {
-    let mut before = 0;
-    for tally in tallies {
-        if *tally < before || *tally > 6 {
-            return false;
-        }
-        before = *tally;
-    }
-    tallies.len() == 16
+    let mut pairs = tallies.iter().zip(tallies.iter().skip(1));
+    tallies.len() == 16 && tallies[15] <= 6 && pairs.all(|(one, next)| one <= next)
 }
 
 #[test]
@@ -39,8 +35,7 @@ fn two_epochs_on_one_site(rt: HostRuntime) -> Result<(), Fail> {
 #[test]
 fn droppers_that_drop_nothing(rt: HostRuntime) -> Result<(), Fail> {
     let start = one_site(rt.alloc(), 0)?;
-    let wish = wish!(droppers: 64);
-    let report = run_gated(&rt, rt.alloc(), start, wish, &Open)?;
+    let report = run_gated(&rt, rt.alloc(), start, wish!(droppers: 64), &Open)?;
     let [epoch] = report.records() else {
         panic!(rt; "one record");
     };
@@ -48,6 +43,25 @@ fn droppers_that_drop_nothing(rt: HostRuntime) -> Result<(), Fail> {
     assert!(rt; report.journal(0).is_empty());
     drop(report);
     Ok(())
+}
+
+// The result in a record: the heights, the odometer and the grains lost.
+#[derive(Clone, Copy)]
+struct Left<'a>(&'a [u64], &'a [u64], u64);
+
+// Whether a run has this result.
+fn leaves<R: Threads + Sync>(
+    rt: &R,
+    alloc: Global,
+    start: Pile,
+    wish: Wish,
+    left: Left<'_>,
+) -> Result<bool, LabFault> {
+    let report = run_gated(rt, alloc, start, wish, &Open)?;
+    let Left(heights, odometer, lost) = left;
+    let leaves = is_settled(report.total().settled(), heights, odometer, lost);
+    drop(report);
+    Ok(leaves)
 }
 
 #[test]
@@ -109,5 +123,48 @@ fn the_same_however_it_is_spread(rt: HostRuntime) -> Result<(), Fail> {
             "{workers} {sweeps} {observers}"
         );
     }
+    Ok(())
+}
+
+#[test]
+fn each_worker_sweeps_its_row(rt: HostRuntime) -> Result<(), Fail> {
+    let start = open_pile(rt.alloc(), 2, 2, &[4; 4])?;
+    let report = run_gated(&rt, rt.alloc(), start, wish!(workers: 2, sweeps: 1), &Open)?;
+    assert_eq!(rt; [report.swept(0, 0), report.swept(0, 1)], [2, 2]);
+    assert!(rt; is_record(report.total(), &[], &[2; 4], &[1; 4], 8));
+    drop(report);
+    Ok(())
+}
+
+// Two rows are split into sixteen bands: only the eighth and the last have one.
+#[test]
+fn workers_without_rows_sweep_nothing(rt: HostRuntime) -> Result<(), Fail> {
+    let start = open_pile(rt.alloc(), 2, 2, &[4; 4])?;
+    let report = run_gated(
+        &rt,
+        rt.alloc(),
+        start,
+        wish!(workers: 16, sweeps: 1000),
+        &Open,
+    )?;
+    for worker in 0..16 {
+        let due = if worker == 7 || worker == 15 { 2 } else { 0 };
+        assert_eq!(rt; report.swept(0, worker), due, "worker {worker}");
+    }
+    drop(report);
+    Ok(())
+}
+
+// The second band topples 330 and 111 times while the droppers work, then 37 and 11 times in two rounds; the first band
+// never topples. The rest topples when the pile is closed.
+#[test]
+fn rounds_go_on_while_one_band_topples(rt: HostRuntime) -> Result<(), Fail> {
+    let mut heights = [0; 64];
+    heights[48] = 1000;
+    let start = open_pile(rt.alloc(), 1, 64, &heights)?;
+    let report = run_gated(&rt, rt.alloc(), start, wish!(workers: 2, sweeps: 2), &Open)?;
+    assert_eq!(rt; [report.swept(0, 0), report.swept(0, 1)], [0, 489]);
+    assert_eq!(rt; report.total().topplings(), 494);
+    drop(report);
     Ok(())
 }

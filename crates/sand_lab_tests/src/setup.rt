@@ -1,16 +1,13 @@
-//! Runs with an album of their own, and their results.
+//! Runs with an album of their own.
 
 ghost use Rattle.std.specs.Prelude.{◌≡◌, ℕ, ◌<◌, IfOk, length};
 ghost use Rattle.sand_lab.specs.Reports.{sheet_at};
 
-use sand_lab::{Album, Gate, LabFault, Open, Report, Wish};
+use sand_lab::{Album, Gate, LabFault, Report, Wish};
 use sand_model::Pile;
-use sand_testing::piles::one_site;
-use sand_testing::records::is_record;
 use sand_testing::runs::run_into;
 use sand_testing::wish;
 use std::alloc::Global;
-use std::test::Fail;
 use std::thread::Threads;
 
 /// Two epochs, in which two droppers drop three grains each.
@@ -39,36 +36,4 @@ pub fn run_gated<R: Threads + Sync, G: Gate>(
             Err(fault)
         }
     }
-}
-
-/// Runs on one site of this height.
-pub fn run_on_a_site<R: Threads + Sync, G: Gate>(
-    rt: &R,
-    alloc: Global,
-    height: u64,
-    wish: Wish,
-    gate: &G,
-) -> Result<(), Fail> {
-    let report = run_gated(rt, alloc, one_site(alloc, height)?, wish, gate)?;
-    drop(report);
-    Ok(())
-}
-
-/// The result in a record: the heights, the odometer and the grains lost.
-#[derive(Clone, Copy)]
-pub struct Left<'a>(pub &'a [u64], pub &'a [u64], pub u64);
-
-/// Whether a run has this result.
-pub fn leaves<R: Threads + Sync>(
-    rt: &R,
-    alloc: Global,
-    start: Pile,
-    wish: Wish,
-    left: Left<'_>,
-) -> Result<bool, LabFault> {
-    let report = run_gated(rt, alloc, start, wish, &Open)?;
-    let (total, Left(heights, odometer, lost)) = (report.total(), left);
-    let leaves = is_record(total, total.history(), heights, odometer, lost);
-    drop(report);
-    Ok(leaves)
 }

@@ -9,34 +9,31 @@ use std::test::Fail;
 
 #[test]
 fn sweeps_two_sites(rt: HostRuntime) {
-    let start = Start((2, 1), &[4, 4], 0);
     let calls = [
         (Sweep(0), Number(2)),
         (Sweep(0), Number(0)),
         (Toppled(0, 0), Number(1)),
     ];
     let left = Left(&[], &[1, 1], &[1, 1], 6);
-    assert!(rt; both_leave(rt.alloc(), start, &calls, left));
+    assert!(rt; both_leave(rt.alloc(), Start((2, 1), &[4, 4], 0), &calls, left));
 }
 
 #[test]
 fn sweeps_a_square(rt: HostRuntime) {
-    let start = Start((2, 2), &[4, 4, 4, 4], 0);
-    let left = Left(&[], &[2, 2, 2, 2], &[1, 1, 1, 1], 8);
+    let left = Left(&[], &[2; 4], &[1; 4], 8);
     let calls = [(Sweep(0), Number(4)), (Sweep(0), Number(0))];
-    assert!(rt; both_leave(rt.alloc(), start, &calls, left));
+    assert!(rt; both_leave(rt.alloc(), Start((2, 2), &[4; 4], 0), &calls, left));
 }
 
 #[test]
 fn sweeps_a_cylinder(rt: HostRuntime) -> Result<(), Fail> {
-    let start = pile_on(rt.alloc(), 3, 1, Edge::Cylinder, &[4, 4, 4])?;
+    let start = pile_on(rt.alloc(), 3, 1, Edge::Cylinder, &[4; 3])?;
     let pile = PileWithPasses::of_start(rt.alloc(), &start, 0).ok();
     drop(start);
-    let pile = pile.ok_or("a shared pile")?;
     let calls = [(Sweep(0), Number(3)), (Sweep(0), Number(0))];
-    let pile = pile.play(rt.alloc(), &calls).ok_or("two sweeps")?;
-    let left = Left(&[], &[2, 2, 2], &[1, 1, 1], 6);
-    assert!(rt; pile.leaves(rt.alloc(), Ending::Close, left));
+    let pile = pile.ok_or("a shared pile")?.play(rt.alloc(), &calls);
+    let left = Left(&[], &[2; 3], &[1; 3], 6);
+    assert!(rt; pile.is_some_and(|pile| pile.leaves(rt.alloc(), Ending::Close, left)));
     Ok(())
 }
 
@@ -44,7 +41,6 @@ fn sweeps_a_cylinder(rt: HostRuntime) -> Result<(), Fail> {
 // this one lacks the lower row and the quota.
 #[test]
 fn goes_once_over_the_rows_of_a_part(rt: HostRuntime) {
-    let start = Start((2, 2), &[3, 4, 0, 0], 1);
     let calls = [
         (SplitRows(0, 1), Done),
         (Split(0, 1), Done),
@@ -52,6 +48,7 @@ fn goes_once_over_the_rows_of_a_part(rt: HostRuntime) {
         (Sweep(0), Number(1)),
         (Sweep(0), Number(0)),
     ];
+    let start = Start((2, 2), &[3, 4, 0, 0], 1);
     assert!(rt; is_there(PileWithPasses::played(rt.alloc(), start, &calls)));
 }
 
@@ -81,7 +78,6 @@ fn each_sweeps_its_own_row(rt: HostRuntime) {
 // The first row has toppled twice in place; the other topples twice at the end.
 #[test]
 fn ends_with_what_a_row_left(rt: HostRuntime) {
-    let start = Start((1, 2), &[8, 7], 2);
     let calls = [
         (DropAt(0, 1), Number(0)),
         (SplitRows(0, 1), Done),
@@ -89,5 +85,5 @@ fn ends_with_what_a_row_left(rt: HostRuntime) {
         (Join(0, 1), Done),
     ];
     let left = Left(&[1], &[2, 2], &[2, 2], 12);
-    assert!(rt; both_leave(rt.alloc(), start, &calls, left));
+    assert!(rt; both_leave(rt.alloc(), Start((1, 2), &[8, 7], 2), &calls, left));
 }

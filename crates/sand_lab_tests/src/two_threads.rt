@@ -3,83 +3,75 @@
 use crate::sweeping::{TWO_ROWS, TWO_ROWS_SWEPT};
 use sand_testing::pile_with_passes::Call::{DropAt, Join, Split, SplitRows, Toppled};
 use sand_testing::pile_with_passes::Returned::{Done, Number};
-use sand_testing::pile_with_passes::{ENDINGS, Ending, Left, PileWithPasses, Start};
+use sand_testing::pile_with_passes::{
+    Call, ENDINGS, Ending, Left, PileWithPasses, Returned, Start,
+};
 use std::alloc::Global;
 use std::thread::Threads;
 
 const ROUNDS: usize = 100;
 
-// Whether the numbers of the first two drops of a pass increase.
+const JOIN: [(Call, Returned); 1] = [(Join(0, 1), Done)];
+
+// Whether the numbers of the two drops of a pass increase.
 fn numbers_rise(pile: &PileWithPasses, pass: usize) -> bool {
-    match (pile.number(pass, 0), pile.number(pass, 1)) {
-        (Some(first), Some(second)) => first < second,
-        _ => false,
-    }
+    matches!(pile.receipts(pass), [first, second] if first.number < second.number)
 }
 
-// The pile with its passes joined, if its four drops have the numbers 0 to 3.
-fn numbered_once(alloc: Global, pile: PileWithPasses) -> Option<PileWithPasses> {
-    let pile = pile.play(alloc, &[(Join(0, 1), Done)])?;
-    let once = (0..4).all(|number| pile.receipts_with(0, number) == Some(1));
-    once.then_some(pile)
+// Whether a receipt of the first pass, and no other, has this number.
+fn is_once(pile: &PileWithPasses, number: u64) -> bool {
+    let receipts = pile.receipts(0).iter();
+    receipts.filter(|receipt| receipt.number == number).count() == 1
 }
 
 #[test]
 fn two_threads_drop_on_one_site(rt: HostRuntime) {
-    let start = Start((1, 1), &[0], 4);
     let left = Left(&[0, 0, 0, 0], &[0], &[1], 4);
     let split = [(Split(0, 2), Done)];
-    let pile = PileWithPasses::played(rt.alloc(), start, &split).expect(&rt, "two passes");
-    let (pile, _) = pile
-        .both_at_once(&rt, Some(0), Some(0))
-        .expect(&rt, "they meet");
-    assert!(rt; numbers_rise(&pile, 0));
-    assert!(rt; numbers_rise(&pile, 1));
-    let pile = numbered_once(rt.alloc(), pile).expect(&rt, "four numbers");
+    let pile = PileWithPasses::played(rt.alloc(), Start((1, 1), &[0], 4), &split);
+    let pile = pile.expect(&rt, "two passes");
+    let met = pile.both_at_once(&rt, Some(0), Some(0));
+    let (pile, _) = met.expect(&rt, "they meet");
+    assert!(rt; numbers_rise(&pile, 0) && numbers_rise(&pile, 1));
+    let pile = pile.play(rt.alloc(), &JOIN).expect(&rt, "a join");
+    assert!(rt; (0..4).all(|number| is_once(&pile, number)));
     assert!(rt; pile.leaves(rt.alloc(), Ending::Close, left));
 }
 
-// Whether the history of two threads that drop on two sites has the order of their numbers.
-fn drop_on_two_sites<R: Threads + Sync>(rt: &R, alloc: Global, ending: Ending) -> Option<bool> {
-    let start = Start((2, 1), &[3, 3], 2);
-    let pile = PileWithPasses::played(alloc, start, &[(Split(0, 1), Done)])?;
-    let (pile, _) = pile.both_at_once(rt, Some(0), Some(1))?;
-    let history = match pile.number(0, 0) {
-        Some(0) => [0, 1],
-        _ => [1, 0],
-    };
-    let left = Left(&history, &[1, 1], &[1, 1], 6);
-    let pile = pile.play(alloc, &[(Join(0, 1), Done)])?;
-    Some(pile.leaves(alloc, ending, left))
-}
-
+// The history has the order of their numbers.
 #[test]
 fn two_threads_drop_on_two_sites(rt: HostRuntime) {
+    let split = [(Split(0, 1), Done)];
     for ending in ENDINGS {
-        assert!(rt; drop_on_two_sites(&rt, rt.alloc(), ending) == Some(true));
+        let pile = PileWithPasses::played(rt.alloc(), Start((2, 1), &[3, 3], 2), &split);
+        let pile = pile.expect(&rt, "two passes");
+        let met = pile.both_at_once(&rt, Some(0), Some(1));
+        let (pile, _) = met.expect(&rt, "they meet");
+        let history = match pile.receipts(0) {
+            [first] if first.number == 0 => [0, 1],
+            _ => [1, 0],
+        };
+        let pile = pile.play(rt.alloc(), &JOIN).expect(&rt, "a join");
+        assert!(rt; pile.leaves(rt.alloc(), ending, Left(&history, &[1, 1], &[1, 1], 6)));
     }
 }
 
-// Whether two threads that sweep after a drop in the middle have the same result as one.
-fn sweep_at_once<R: Threads + Sync>(rt: &R, alloc: Global, ending: Ending) -> Option<bool> {
-    let start = Start((3, 3), &[3, 3, 3, 3, 3, 3, 3, 3, 3], 1);
+// They sweep after a drop in the middle, with the same result as one thread.
+#[test]
+fn two_threads_sweep_at_once(rt: HostRuntime) {
+    let calls = [(DropAt(0, 4), Number(0)), (SplitRows(0, 2), Done)];
     let left = Left(
         &[4],
         &[1, 3, 1, 3, 0, 3, 1, 3, 1],
         &[1, 1, 1, 1, 2, 1, 1, 1, 1],
         12,
     );
-    let calls = [(DropAt(0, 4), Number(0)), (SplitRows(0, 2), Done)];
-    let pile = PileWithPasses::played(alloc, start, &calls)?;
-    let (pile, _) = pile.both_at_once(rt, None, None)?;
-    let pile = pile.play(alloc, &[(Join(0, 1), Done)])?;
-    Some(pile.leaves(alloc, ending, left))
-}
-
-#[test]
-fn two_threads_sweep_at_once(rt: HostRuntime) {
     for ending in ENDINGS {
-        assert!(rt; sweep_at_once(&rt, rt.alloc(), ending) == Some(true));
+        let pile = PileWithPasses::played(rt.alloc(), Start((3, 3), &[3; 9], 1), &calls);
+        let pile = pile.expect(&rt, "two passes");
+        let (pile, _) = pile.both_at_once(&rt, None, None).expect(&rt, "they meet");
+        let pile = pile.play(rt.alloc(), &JOIN).expect(&rt, "a join");
+        assert!(rt; pile.leaves(rt.alloc(), ending, left));
     }
 }
 

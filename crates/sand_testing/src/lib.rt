@@ -2,6 +2,7 @@
 //! values worked out by hand, runs, and the words of a command line.
 #![tactic(auto)]
 
+pub mod counting;
 pub mod meeting;
 mod pairs;
 pub mod pile_with_passes;

@@ -7,7 +7,7 @@ ghost use Rattle.sand_shared.specs.OpenPile.{grid_of_terms};
 ghost use Rattle.sand_shared.specs.Passes.{IsPassOf};
 
 use crate::meeting::Meeting;
-use crate::shared::drop_rest;
+use crate::records::drop_rest;
 use sand_shared::{Pass, SharedPile};
 use std::thread::{Threads, join};
 

@@ -9,10 +9,9 @@ ghost use Rattle.sand_model.specs.Grid.{sites};
 ghost use Rattle.sand_shared.specs.Passes.{IsPassOf};
 
 use crate::pairs::both_at_once;
-use crate::records::{is_record, is_settled};
-use crate::shared::{bare_of, drop_rest};
+use crate::records::{drop_rest, is_record, is_settled};
 use sand_model::{Pile, Shape};
-use sand_shared::{BarePass, DropFault, Pass, Record, SharedPile, SiteCounts, SplitFault};
+use sand_shared::{BarePass, DropFault, Pass, Receipt, Record, SharedPile, SiteCounts, SplitFault};
 use std::alloc::Global;
 use std::marker::Model;
 use std::thread::Threads;
@@ -48,6 +47,8 @@ pub enum Call {
     Receipt(usize, usize),
     /// How often a pass has toppled a site of its rows.
     Toppled(usize, usize),
+    /// Tries both endings, so many times. Each fails because something is missing.
+    StillMissing(u32),
 }
 
 /// What a call returns.
@@ -118,22 +119,6 @@ fn take(_pile: &SharedPile, passes: &mut Vec<Pass>, place: usize) -> Option<Pass
         return None;
     }
     Some(passes.remove(place))
-}
-
-// Takes the first two passes out of a list.
-fn take_two(_pile: &SharedPile, passes: &mut Vec<Pass>) -> Option<(Pass, Pass)>
-    requires { All (IsPassOf _pile.now) passes.old.items }
-    ensures passes { IfSome result (λ r. IsPassOf _pile.now r.0 × IsPassOf _pile.now r.1) }
-    ensures rest { All (IsPassOf _pile.now) passes.new.items }
-{
-    let other = take(_pile, passes, 1)?;
-    match take(_pile, passes, 0) {
-        Some(one) => Some((one, other)),
-        None => {
-            drop(other);
-            None
-        }
-    }
 }
 
 // Inserts a pass into a list, if there is room.
@@ -262,14 +247,25 @@ impl PileWithPasses {
     }
 
     /// The pile, if these calls return what is expected.
-    pub fn play(mut self, alloc: Global, calls: &[(Call, Returned)]) -> Option<PileWithPasses> {
+    pub fn play(self, alloc: Global, calls: &[(Call, Returned)]) -> Option<PileWithPasses> {
+        let mut pile = self;
         for (call, expected) in calls {
-            if self.call(alloc, *call) != *expected {
+            pile = pile.step(alloc, *call, *expected)?;
+        }
+        Some(pile)
+    }
+
+    fn step(mut self, alloc: Global, call: Call, expected: Returned) -> Option<PileWithPasses> {
+        match call {
+            Call::StillMissing(times) if expected == Returned::Done => {
+                self.still_missing(alloc, times)
+            }
+            _ if self.call(alloc, call) == expected => Some(self),
+            _ => {
                 drop(self);
-                return None;
+                None
             }
         }
-        Some(self)
     }
 
     pub fn call(&mut self, alloc: Global, call: Call) -> Returned {
@@ -291,6 +287,7 @@ impl PileWithPasses {
             Call::Rows(pass) => self.rows(pass),
             Call::Receipt(pass, place) => self.receipt(pass, place),
             Call::Toppled(pass, site) => self.toppled(pass, site),
+            Call::StillMissing(_) => None,
         };
         returned.unwrap_or(Returned::NoSuch)
     }
@@ -383,7 +380,7 @@ impl PileWithPasses {
 
     fn into_bare(&mut self, pass: usize) -> Option<Returned> {
         let pass = take(&self.pile, &mut self.passes, pass)?;
-        put_bare(&self.pile, &mut self.bare, bare_of(pass));
+        put_bare(&self.pile, &mut self.bare, pass.into_bare().0);
         Some(Returned::Done)
     }
 
@@ -433,14 +430,12 @@ impl PileWithPasses {
         is_held.then(|| Returned::Number(pass.toppled(site)))
     }
 
-    pub fn number(&self, pass: usize, place: usize) -> Option<u64> {
-        Some(self.passes.get(pass)?.receipts().get(place)?.number)
-    }
-
-    /// The number of receipts with this number.
-    pub fn receipts_with(&self, pass: usize, number: u64) -> Option<usize> {
-        let receipts = self.passes.get(pass)?.receipts().iter();
-        Some(receipts.filter(|receipt| receipt.number == number).count())
+    /// The receipts of a pass; none if there is no such pass.
+    pub fn receipts(&self, pass: usize) -> &[Receipt] {
+        match self.passes.get(pass) {
+            Some(pass) => pass.receipts(),
+            None => &[],
+        }
     }
 
     /// Runs its two passes on two threads that meet: each makes all remaining drops at its site, or sweeps if it has
@@ -455,7 +450,8 @@ impl PileWithPasses {
             drop(self);
             return None;
         }
-        let Some((one, other)) = take_two(&self.pile, &mut self.passes) else {
+        let one = take(&self.pile, &mut self.passes, 0);
+        let Some((one, other)) = one.zip(take(&self.pile, &mut self.passes, 0)) else {
             drop(self);
             return None;
         };
@@ -471,8 +467,14 @@ impl PileWithPasses {
         }
     }
 
-    // Ends the shared pile with its first pass. If that fails, everything comes back, with the number of the fault.
-    fn record(mut self, alloc: Global, ending: Ending) -> Result<Record, (u32, PileWithPasses)> {
+    // Ends the shared pile with its first pass, and returns whether the record is as expected. If it fails, everything
+    // comes back, with the number of the fault.
+    fn close(
+        mut self,
+        alloc: Global,
+        ending: Ending,
+        left: Left<'_>,
+    ) -> Result<bool, (u32, PileWithPasses)> {
         let Some(first) = take(&self.pile, &mut self.passes, 0) else {
             return Err((0, self));
         };
@@ -483,7 +485,7 @@ impl PileWithPasses {
         match ended {
             Ok(record) => {
                 drop((self.passes, self.spare, self.bare, self.counts));
-                Ok(record)
+                Ok(is_left(record, left))
             }
             Err((fault, pile, first)) => {
                 put(&pile, &mut self.passes, 0, first);
@@ -525,10 +527,7 @@ impl PileWithPasses {
         let ended = match ending {
             Ending::RecordNow => self.record_now(alloc, left),
             Ending::SettleRest => self.settle_rest(alloc, left),
-            _ => {
-                let record = self.record(alloc, ending);
-                return record.map(|record| is_left(record, left));
-            }
+            _ => return self.close(alloc, ending, left),
         };
         match ended {
             Ok(is_right) => {
@@ -550,10 +549,15 @@ impl PileWithPasses {
         }
     }
 
-    /// The pile, if no record can be made because something is missing.
-    pub fn still_missing(self, alloc: Global) -> Option<PileWithPasses> {
-        self.misses(alloc, Ending::Close)?
-            .misses(alloc, Ending::Settle)
+    // The pile, if both endings fail so many times because something is missing.
+    fn still_missing(self, alloc: Global, times: u32) -> Option<PileWithPasses> {
+        let mut pile = self;
+        for _ in 0..times {
+            pile = pile
+                .misses(alloc, Ending::Close)?
+                .misses(alloc, Ending::Settle)?;
+        }
+        Some(pile)
     }
 
     /// Whether this ending has this result.

@@ -1,10 +1,10 @@
-//! Runs of the laboratory.
+//! Runs of the laboratory, and what an album shows of them.
 
 ghost use Rattle.std.specs.Prelude.{◌≡◌, ℕ, ◌<◌, IfOk, length};
 ghost use Rattle.sand_lab.specs.Albums.{IsPlace};
 ghost use Rattle.sand_lab.specs.Reports.{sheet_at};
 
-use sand_lab::{Album, Gate, LabFault, Plan, Report, Wish, run};
+use sand_lab::{Album, Gate, LabFault, Note, Plan, Report, Wish, run};
 use sand_model::Pile;
 use std::alloc::Global;
 use std::thread::Threads;
@@ -44,4 +44,25 @@ pub fn run_into<R: Threads + Sync, G: Gate>(
 {
     let plan = Plan::new(wish)?;
     run(rt, alloc, start, &plan, gate, album)
+}
+
+/// The epoch of the picture at a place, and the height of its first site.
+pub fn seen(album: &Album, k: u32, note: &mut Note) -> Option<(u32, u64)>
+    requires { IsPlace album.now k note.old.cell }
+    ensures { note.new.cell ≡ note.old.cell }
+{
+    let picture = album.look(k, note)?;
+    let height = picture.closed().pile().heights().first()?;
+    Some((picture.epoch(), *height))
+}
+
+/// The same, seen with a new note.
+pub fn seen_anew(album: &Album, k: u32) -> Option<(u32, u64)> {
+    if k >= album.places() {
+        return None;
+    }
+    let mut note = album.note(k);
+    let seen = seen(album, k, &mut note);
+    drop(note);
+    seen
 }
