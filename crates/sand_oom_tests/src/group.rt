@@ -12,10 +12,7 @@ use std::test::Fail;
 
 /// Two sites with these grains, which are recurrent.
 pub fn recurrent(alloc: Global, heights: [u64; 2]) -> Result<Recurrent, Fail> {
-    let pile = open_pile(alloc, 2, 1, &heights)?;
-    let recurrent = Recurrent::from_pile(alloc, &pile);
-    drop(pile);
-    Ok(recurrent?)
+    Ok(Recurrent::from_pile(alloc, &open_pile(alloc, 2, 1, &heights)?)?)
 }
 
 fn has_heights(recurrent: &Recurrent, heights: &[u64]) -> bool {
@@ -28,19 +25,8 @@ fn is_fired(fired: &Fired, heights: &[u64], firing: &[i64]) -> bool {
 
 // The burning order of three sites in a row with a grain at each end: the middle burns after both ends.
 fn is_order_of_three(burned: &Burned) -> bool {
-    match burned {
-        Burned::Recurrent(order) => {
-            order.as_slice() == [0, 2, 1].as_slice() || order.as_slice() == [2, 0, 1].as_slice()
-        }
-        Burned::Forbidden(_) => false,
-    }
-}
-
-fn is_forbidden(burned: &Burned, set: &[usize]) -> bool {
-    match burned {
-        Burned::Recurrent(_) => false,
-        Burned::Forbidden(sites) => sites.as_slice() == set,
-    }
+    matches!(burned, Burned::Recurrent(order)
+        if order.as_slice() == [0, 2, 1].as_slice() || order.as_slice() == [2, 0, 1].as_slice())
 }
 
 #[test]
@@ -50,7 +36,7 @@ fn burn_reports_out_of_memory(rt: HostRuntime) -> Result<(), Fail> {
         is_order_of_three(&burned))?;
     let pile = open_pile(rt.alloc(), 3, 1, &[0, 0, 3])?;
     refused!(rt, "burn, where a set is forbidden", alloc => burn(alloc, &pile), burned =>
-        is_forbidden(&burned, &[0, 1]))
+        matches!(&burned, Burned::Forbidden(set) if set.as_slice() == [0, 1].as_slice()))
 }
 
 #[test]

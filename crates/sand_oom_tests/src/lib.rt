@@ -9,8 +9,8 @@
 //! under plain `rt ci` nothing is refused, and each call is made once. Each trial prints how many allocations were
 //! refused.
 //!
-//! Large values are dropped by `drop`. If one goes out of scope instead, the function's proof takes it apart field by
-//! field, on each way out.
+//! Large values are mostly dropped by `drop`. If one goes out of scope instead, the function's proof takes it apart field
+//! by field, on each way out.
 #![tactic(auto)]
 
 #[cfg(test)]

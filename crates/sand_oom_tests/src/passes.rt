@@ -2,8 +2,8 @@
 
 use crate::memory::was_refused;
 use crate::piles::full;
-use crate::trying::{MEMORY, Spares, each_refused, each_refused_on, refused};
-use sand_shared::{Pass, SharedPile, SiteCounts};
+use crate::trying::refused;
+use sand_shared::{Pass, SharedFault, SharedPile, SiteCounts};
 use sand_testing::pile_with_passes::Call::{
     Counts, DropRest, IntoBare, Join, JoinAll, JoinBare, Rows, Split, SplitRows, Sweep, Toppled,
 };
@@ -23,12 +23,7 @@ fn new_shared_piles_report_out_of_memory(rt: HostRuntime) -> Result<(), Fail> {
     let start = full(rt.alloc())?;
     refused!(rt, "SharedPile::new", alloc => SharedPile::new(alloc, &start, 7), made => is_first(&made.1))?;
     let shape = start.shape();
-    each_refused(&rt, rt.alloc(), "SiteCounts::new", |alloc: Global| {
-        match SiteCounts::new(alloc, shape) {
-            Ok(_) => Ok(true),
-            Err(_) => Err(MEMORY),
-        }
-    })
+    refused!(rt, "SiteCounts::new", alloc => SiteCounts::new(alloc, shape).map_err(SharedFault::Memory), _counts => true)
 }
 
 // A call on a shared pile, or its ending if no call is given: the calls before it, what these calls return until it
@@ -186,50 +181,35 @@ const SETTLE_REST: Trial = Trial {
     ..CLOSE
 };
 
-// Makes the calls after the tested one, and ends the pile.
-fn end(alloc: Global, pile: PileWithPasses, trial: Trial) -> Result<bool, (u32, PileWithPasses)> {
+// Makes the tested call; then, with all its memory, what follows it.
+fn call(
+    alloc: Global,
+    mut pile: PileWithPasses,
+    trial: Trial,
+) -> Result<bool, (u32, PileWithPasses)> {
+    if let Some(call) = trial.call {
+        let returned = pile.call(alloc, call);
+        was_refused(alloc);
+        if let Fault(fault) = returned {
+            return Err((fault, pile));
+        }
+    }
     match pile.play(alloc, trial.after) {
         Some(pile) => pile.end(alloc, trial.ending, trial.left),
         None => Ok(false),
     }
 }
 
-// Makes the tested call, and what follows it with all its memory.
-fn call(
-    alloc: Global,
-    mut pile: PileWithPasses,
-    trial: Trial,
-) -> Result<bool, (u32, PileWithPasses)> {
-    let Some(call) = trial.call else {
-        return end(alloc, pile, trial);
-    };
-    let returned = pile.call(alloc, call);
-    was_refused(alloc);
-    match returned {
-        Done => end(alloc, pile, trial),
-        Fault(fault) => Err((fault, pile)),
-        _ => {
-            drop(pile);
-            Ok(false)
-        }
-    }
-}
-
 // One try, which takes the pile out of its place unless it fails.
 fn once(alloc: Global, place: &mut Option<PileWithPasses>, trial: Trial) -> Result<bool, u32> {
-    let Some(pile) = place.take() else {
+    let pile = place.take();
+    let Some(pile) = pile.and_then(|pile| pile.play(alloc, trial.unchanged)) else {
         return Ok(false);
     };
-    let Some(pile) = pile.play(alloc, trial.unchanged) else {
-        return Ok(false);
-    };
-    match call(alloc, pile, trial) {
-        Ok(is_right) => Ok(is_right),
-        Err((fault, pile)) => {
-            *place = Some(pile);
-            Err(fault)
-        }
-    }
+    call(alloc, pile, trial).map_err(|(fault, pile)| {
+        *place = Some(pile);
+        fault
+    })
 }
 
 #[test]
@@ -246,13 +226,11 @@ fn calls_on_a_shared_pile_report_out_of_memory(rt: HostRuntime) -> Result<(), Fa
         RECORD_NOW,
         SETTLE_REST,
     ] {
-        each_refused_on(
-            &rt,
-            rt.alloc(),
+        refused!(
+            rt,
             trial.name,
-            Spares::Nothing,
             |alloc: Global| Ok(PileWithPasses::played(alloc, trial.start, trial.before)),
-            |alloc: Global, place: &mut Option<PileWithPasses>| once(alloc, place, trial),
+            |alloc: Global, place: &mut Option<PileWithPasses>| once(alloc, place, trial)
         )?;
     }
     Ok(())

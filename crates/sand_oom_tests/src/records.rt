@@ -1,67 +1,25 @@
 //! Records: copied, shared, and extended by the next one.
 
 use crate::memory::{refuse, was_refused};
-use crate::trying::{MEMORY, each_refused, refused};
+use crate::trying::{MEMORY, refused};
 use sand_shared::Record;
-use sand_testing::records::{is_record, may_follow};
-use sand_testing::shared::{dropped_on, dropped_on_a_site};
+use sand_testing::records::{dropped_on_a_site, is_four, is_three, may_follow, one_more};
 use std::alloc::Global;
 use std::test::Fail;
 
 // Three drops on an empty site, then one that topples it.
 fn three_and_one(alloc: Global) -> Result<(Record, Record), Fail> {
     let three = dropped_on_a_site(alloc, 0, 3)?;
-    match dropped_on(alloc, three.pile(), 1) {
-        Ok(one) => Ok((three, one)),
-        Err(fault) => {
-            drop(three);
-            Err(fault)
-        }
-    }
-}
-
-fn is_three(record: &Record) -> bool {
-    is_record(record, &[0; 3], &[3], &[0], 0)
-}
-
-// The same of a record that is not needed any more.
-fn was_three(record: Record) -> bool {
-    let is_right = is_three(&record);
-    drop(record);
-    is_right
-}
-
-fn is_four(record: &Record) -> bool {
-    is_record(record, &[0; 4], &[0], &[1], 4)
-}
-
-// A record of three drops, followed by one of one drop. Returns whether that is right, or the number of the fault.
-fn follow(alloc: Global, three: &Record, one: &Record) -> Result<bool, u32> {
-    if !may_follow(three, one) {
-        return Ok(false);
-    }
-    match three.followed_by(alloc, one) {
-        Ok(four) => {
-            let is_right = is_four(&four);
-            drop(four);
-            Ok(is_right)
-        }
-        Err(fault) => Err(fault.number()),
-    }
+    let one = one_more(alloc, &three)?;
+    Ok((three, one))
 }
 
 #[test]
 fn new_records_report_out_of_memory(rt: HostRuntime) -> Result<(), Fail> {
     let (three, one) = three_and_one(rt.alloc())?;
-    refused!(rt, "Record::copy", alloc => three.copy(alloc), copy => was_three(copy))?;
-    let tried = each_refused(
-        &rt,
-        rt.alloc(),
-        "Record::followed_by",
-        |alloc: Global| follow(alloc, &three, &one),
-    );
-    drop((three, one));
-    tried
+    assert!(rt; may_follow(&three, &one));
+    refused!(rt, "Record::copy", alloc => three.copy(alloc), copy => is_three(&copy))?;
+    refused!(rt, "Record::followed_by", alloc => three.followed_by(alloc, &one), four => is_four(&four))
 }
 
 // Makes two records of one. If that fails, the record is gone.
@@ -70,10 +28,7 @@ fn twice(alloc: Global, record: &mut Option<Record>) -> Result<bool, u32> {
         return Ok(true);
     };
     match three.twice(alloc) {
-        Ok((first, second)) => {
-            let are_right = (was_three(first), was_three(second));
-            Ok(are_right == (true, true))
-        }
+        Ok((first, second)) => Ok(is_three(&first) && is_three(&second)),
         Err(_) => Err(MEMORY),
     }
 }
@@ -89,11 +44,7 @@ fn is_copied_without_history(alloc: Global, three: &Record) -> bool {
     refuse(alloc, 4);
     let copied = three.copy(alloc).ok();
     let was_refused = was_refused(alloc);
-    let is_right = match copied {
-        Some(copy) => was_three(copy),
-        None => false,
-    };
-    is_right && !was_refused
+    !was_refused && copied.is_some_and(|copy| is_three(&copy))
 }
 
 // Two records take one allocation more than a copy. Each can then be copied without one for its history, so both have
@@ -106,10 +57,9 @@ fn two_records_share_their_history(rt: HostRuntime) -> Result<(), Fail> {
     let made = three.twice(alloc);
     assert!(rt; !was_refused(alloc));
     let (first, second) = made?;
-    let is_first = is_copied_without_history(alloc, &first);
-    let is_second = is_copied_without_history(alloc, &second);
+    assert!(rt; is_copied_without_history(alloc, &first));
+    assert!(rt; is_copied_without_history(alloc, &second));
     drop((first, second));
-    assert!(rt; is_first && is_second);
     Ok(())
 }
 
@@ -132,13 +82,8 @@ fn append(alloc: Global, records: &mut Growing) -> Result<bool, u32> {
 // Both records of three drops have the same history.
 fn shared(alloc: Global) -> Result<Growing, Fail> {
     let (three, one) = three_and_one(alloc)?;
-    match three.twice(alloc) {
-        Ok((three, other)) => Ok((three, one, other)),
-        Err(fault) => {
-            drop(one);
-            Err(fault.into())
-        }
-    }
+    let (three, other) = three.twice(alloc)?;
+    Ok((three, one, other))
 }
 
 #[test]
@@ -149,13 +94,8 @@ fn append_to_a_shared_history_reports_out_of_memory(rt: HostRuntime) -> Result<(
 // The record that is to grow has room for one more drop.
 fn roomy(alloc: Global) -> Result<Growing, Fail> {
     let (three, one) = three_and_one(alloc)?;
-    match three.copy_with_room(alloc, 1) {
-        Ok(roomy) => Ok((roomy, one, three)),
-        Err(fault) => {
-            drop((three, one));
-            Err(fault.into())
-        }
-    }
+    let roomy = three.copy_with_room(alloc, 1)?;
+    Ok((roomy, one, three))
 }
 
 // Copying the heights and the odometer takes two allocations. The history has room, so it takes none.

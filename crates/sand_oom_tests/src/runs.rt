@@ -2,17 +2,14 @@
 //!
 //! A run can do without a refused allocation: if a thread cannot be started, the thread that wanted it does its work.
 
-ghost use Rattle.std.specs.Prelude.{◌≡◌};
-ghost use Rattle.sand_lab.specs.Albums.{IsPlace};
-
 use crate::memory::was_refused;
-use crate::trying::{Spares, each_refused_on, print_refused, refused};
+use crate::trying::{Spares, each_refused, print_refused, refused};
 use sand_desk::{journal_text, lab_text};
-use sand_lab::{Album, LabFault, Note, Open, Report, Wish, sites_of};
+use sand_lab::{Album, Open, Report, Wish, sites_of};
 use sand_model::{Pile, Shape};
 use sand_shared::Record;
 use sand_testing::piles::{one_site, open_pile};
-use sand_testing::runs::run_into;
+use sand_testing::runs::{run_into, seen_anew};
 use sand_testing::wish;
 use std::alloc::Global;
 use std::process::Abort;
@@ -87,18 +84,11 @@ fn is_uniform(record: &Record, uniform: Uniform) -> bool {
         && are_all(record.odometers(), toppled)
 }
 
-// Whether a report that is not needed any more is right.
-fn was_report(report: Report, trial: &Trial) -> bool {
-    let is_right = match report.records() {
-        [first, second] => {
-            is_uniform(first, trial.first)
-                && is_uniform(second, trial.second)
-                && is_uniform(report.total(), trial.total)
-        }
-        _ => false,
-    };
-    drop(report);
-    is_right
+// Whether a report is right.
+fn is_report(report: &Report, trial: &Trial) -> bool {
+    matches!(report.records(), [first, second]
+        if is_uniform(first, trial.first) && is_uniform(second, trial.second))
+        && is_uniform(report.total(), trial.total)
 }
 
 // Whether a run into an album has the right result, or the number of its fault.
@@ -110,28 +100,14 @@ fn run_once<R: Threads + Sync>(
     album: &Album,
 ) -> Result<bool, u32> {
     match run_into(rt, alloc, start, trial.wish, &Open, album) {
-        Ok(report) => Ok(was_report(report, trial)),
+        Ok(report) => Ok(is_report(&report, trial)),
         Err(fault) => Err(fault.number()),
     }
 }
 
-// The height of the first site in the picture at a place.
-fn height_at(album: &Album, k: u32, mut note: Note) -> Option<u64>
-    requires { IsPlace album.now k note.cell }
-{
-    let picture = album.look(k, &mut note)?;
-    picture.closed().pile().heights().first().copied()
-}
-
-// What new notes show of the two places of an album.
-fn heights_in(album: &Album) -> (Option<u64>, Option<u64>) {
-    if album.places() != 2 {
-        return (None, None);
-    }
-    (
-        height_at(album, 0, album.note(0)),
-        height_at(album, 1, album.note(1)),
-    )
+// The epochs and the heights of the first site in the pictures of an album with two places.
+fn pictures(album: &Album) -> [Option<(u32, u64)>; 2] {
+    [seen_anew(album, 0), seen_anew(album, 1)]
 }
 
 // Whether an album shows the first epoch of a failed run, and keeps showing it after a run into the place taken.
@@ -142,10 +118,10 @@ fn stays_published<R: Threads + Sync>(
     trial: &Trial,
     album: &Album,
 ) -> bool {
-    let first = (Some(trial.first.1), None);
-    heights_in(album) == first
+    let first = [Some((0, trial.first.1)), None];
+    pictures(album) == first
         && run_once(rt, alloc, start, trial, album) == Err(17)
-        && heights_in(album) == first
+        && pictures(album) == first
 }
 
 // A run into an album. If it fails between its two epochs, the first stays published; `between` counts this.
@@ -159,7 +135,7 @@ fn run_and_look<R: Threads + Sync>(
 ) -> Result<bool, u32> {
     let outcome = run_once(rt, alloc, start, trial, album);
     was_refused(alloc);
-    let (first, second) = heights_in(album);
+    let [first, second] = pictures(album);
     if outcome.is_err() && first.is_some() && second.is_none() {
         between.fetch_add(1, SeqCst);
         if !stays_published(rt, alloc, start, trial, album) {
@@ -171,11 +147,8 @@ fn run_and_look<R: Threads + Sync>(
 
 // Two albums, each with a place for each of two epochs.
 fn two_albums(alloc: Global) -> Result<Vec<Album>, Fail> {
-    let mut albums = Vec::new(alloc);
-    for _ in 0..2 {
-        albums.push(Album::new(alloc, 2)?)?;
-    }
-    Ok(albums)
+    let albums = [Album::new(alloc, 2)?, Album::new(alloc, 2)?];
+    Ok(Vec::from_array(alloc, albums)?)
 }
 
 // Tries a run. If it fails, it is repeated with another album.
@@ -186,7 +159,7 @@ fn each_refused_of<R: Threads + Sync + Print + Abort>(
 ) -> Result<(), Fail> {
     let start = open_pile(alloc, trial.side, trial.side, trial.start)?;
     let between = AtomicU32::new(0);
-    let tried = each_refused_on(
+    let tried = each_refused(
         rt,
         alloc,
         trial.name,
@@ -211,32 +184,19 @@ fn runs_report_out_of_memory(rt: HostRuntime) -> Result<(), Fail> {
     Ok(())
 }
 
-// The report of a run with one dropper and two drops.
-fn report_of<R: Threads + Sync>(rt: &R, alloc: Global) -> Result<Report, Fail> {
-    let start = one_site(alloc, 0)?;
-    let report = report_on(rt, alloc, &start);
-    drop(start);
-    report
-}
+const LAB: &[u8] =
+    b"epoch drops topplings lost grains\n0 2 0 0 2\ntotal 2 0 0 2\n1 1\n2\nodometer\n0\n";
 
-fn report_on<R: Threads + Sync>(rt: &R, alloc: Global, start: &Pile) -> Result<Report, Fail> {
-    let album = Album::new(alloc, 1)?;
-    let wish = wish!(drops: 2);
-    let report = run_into(rt, alloc, start, wish, &Open, &album);
-    drop(album);
-    Ok(report?)
-}
+const JOURNAL: &[u8] = b"journal\n0 0 0 0\n0 1 0 0\n";
 
-fn is_lab_text(text: &[u8]) -> bool {
-    text == b"epoch drops topplings lost grains\n0 2 0 0 2\ntotal 2 0 0 2\n1 1\n2\nodometer\n0\n".as_slice()
-}
-
+// The texts of a run with one dropper and two drops.
 #[test]
 fn texts_of_a_run_report_out_of_memory(rt: HostRuntime) -> Result<(), Fail> {
-    let report = report_of(&rt, rt.alloc())?;
-    refused!(rt, "lab_text", alloc => lab_text(alloc, &report), text => is_lab_text(text.as_slice()))?;
-    let tried = refused!(rt, "journal_text", alloc => journal_text(alloc, &report), text =>
-        text.as_slice() == b"journal\n0 0 0 0\n0 1 0 0\n".as_slice());
-    drop(report);
-    tried
+    let start = one_site(rt.alloc(), 0)?;
+    let album = Album::new(rt.alloc(), 1)?;
+    let ran = run_into(&rt, rt.alloc(), &start, wish!(drops: 2), &Open, &album);
+    drop((start, album));
+    let report = ran?;
+    refused!(rt, "lab_text", alloc => lab_text(alloc, &report), text => text.as_slice() == LAB)?;
+    refused!(rt, "journal_text", alloc => journal_text(alloc, &report), text => text.as_slice() == JOURNAL)
 }

@@ -22,13 +22,6 @@ fn is_one_pile(one: &OnePile, tally: u64, heights: &[u64], odometer: &[u64], los
         && one.odometers() == odometer
 }
 
-// Whether two sites of four grains have settled.
-fn is_of_the_two(one: OnePile) -> bool {
-    let is_right = is_one_pile(&one, 0, &[1, 1], &[1, 1], 6);
-    drop(one);
-    is_right
-}
-
 /// Whether one grain was dropped in the middle of nine sites of three grains each, and nothing else.
 pub fn is_after_the_drop(one: &OnePile) -> bool {
     let heights = [1, 3, 1, 3, 0, 3, 1, 3, 1];
@@ -47,10 +40,7 @@ pub const MIDDLE: Avalanche = Avalanche {
 
 /// The pile of one thread on nine sites of three grains each.
 pub fn full_of_one_thread(alloc: Global) -> Result<OnePile, Fail> {
-    let full = full(alloc)?;
-    let one = OnePile::new(alloc, &full);
-    drop(full);
-    Ok(one?)
+    Ok(OnePile::new(alloc, &full(alloc)?)?)
 }
 
 // Drops in the middle, if nothing was dropped before. Returns whether the drop and the pile after it are right, or the
@@ -71,7 +61,8 @@ fn drop_in_the_middle(alloc: Global, one: &mut OnePile) -> Result<bool, u32> {
 fn settling_reports_out_of_memory(rt: HostRuntime) -> Result<(), Fail> {
     let pile = open_pile(rt.alloc(), 2, 1, &[4, 4])?;
     refused!(rt, "settle", alloc => settle(alloc, &pile), settled => is_settled(&settled, &[1, 1], &[1, 1], 6))?;
-    refused!(rt, "OnePile::new", alloc => OnePile::new(alloc, &pile), one => is_of_the_two(one))?;
+    refused!(rt, "OnePile::new", alloc => OnePile::new(alloc, &pile), one =>
+        is_one_pile(&one, 0, &[1, 1], &[1, 1], 6))?;
     // No grain is left over or missing.
     let pile = heap(rt.alloc())?;
     refused!(rt, "settle, by a guess", alloc => settle(alloc, &pile), settled =>

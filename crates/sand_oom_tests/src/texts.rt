@@ -7,25 +7,18 @@ use sand_desk::{
     burn_text, pgm_text, pile_text, read_drops, read_pile, read_two, settle_text, table_text,
 };
 use sand_group::burn;
-use sand_model::Pile;
 use sand_settle::settle;
 use sand_testing::piles::open_pile;
 use std::test::Fail;
-
-fn is_two(piles: &(Pile, Pile)) -> bool {
-    piles.0.heights() == [3, 1].as_slice() && piles.1.heights() == [3, 3].as_slice()
-}
-
-fn is_drops(read: &(Pile, Vec<usize>)) -> bool {
-    read.0.heights() == [3, 1].as_slice() && read.1.as_slice() == [1, 0, 1].as_slice()
-}
 
 #[test]
 fn readings_report_out_of_memory(rt: HostRuntime) -> Result<(), Fail> {
     refused!(rt, "read_pile", alloc => read_pile(alloc, b"3 1\n0 4 0\n"), pile =>
         pile.heights() == [0, 4, 0].as_slice())?;
-    refused!(rt, "read_two", alloc => read_two(alloc, b"2 1\n3 1\n2 1\n3 3\n"), piles => is_two(&piles))?;
-    refused!(rt, "read_drops", alloc => read_drops(alloc, b"2 1\n3 1\n1 0 1\n"), read => is_drops(&read))
+    refused!(rt, "read_two", alloc => read_two(alloc, b"2 1\n3 1\n2 1\n3 3\n"), piles =>
+        piles.0.heights() == [3, 1].as_slice() && piles.1.heights() == [3, 3].as_slice())?;
+    refused!(rt, "read_drops", alloc => read_drops(alloc, b"2 1\n3 1\n1 0 1\n"), read =>
+        read.0.heights() == [3, 1].as_slice() && read.1.as_slice() == [1, 0, 1].as_slice())
 }
 
 #[test]

@@ -11,17 +11,20 @@ const MOST_REQUESTS: u32 = 100_000;
 /// The number of the fault out of memory.
 pub const MEMORY: u32 = 4;
 
-/// `refused!(rt, NAME, alloc => CALL, value => IS_RIGHT)` is `each_refused` for a call that returns a value or a fault.
-/// `refused!(rt, NAME, NEW_VALUE, CALL)` is `each_refused_on` for a call that can do without nothing.
+/// `refused!(rt, NAME, NEW_VALUE, CALL)` is `each_refused` for a call that can do without nothing.
+/// `refused!(rt, NAME, alloc => CALL, value => IS_RIGHT)` is that for a call that returns a value or a fault, and leaves
+/// its arguments unchanged.
 macro_rules! refused {
-    ($rt:ident, $name:literal, $alloc:ident => $call:expr, $value:ident => $is_right:expr) => {
-        $crate::trying::each_refused(&$rt, $rt.alloc(), $name, |$alloc: std::alloc::Global| match $call {
-            Ok($value) => Ok($is_right),
-            Err(fault) => Err(fault.number()),
+    ($rt:ident, $name:expr, $alloc:ident => $call:expr, $value:ident => $is_right:expr) => {
+        $crate::trying::refused!($rt, $name, |_: std::alloc::Global| Ok(()), |$alloc: std::alloc::Global, _: &mut ()| {
+            match $call {
+                Ok($value) => Ok($is_right),
+                Err(fault) => Err(fault.number()),
+            }
         })
     };
-    ($rt:ident, $name:literal, $new_value:expr, $call:expr) => {
-        $crate::trying::each_refused_on(&$rt, $rt.alloc(), $name, $crate::trying::Spares::Nothing, $new_value, $call)
+    ($rt:ident, $name:expr, $new_value:expr, $call:expr) => {
+        $crate::trying::each_refused(&$rt, $rt.alloc(), $name, $crate::trying::Spares::Nothing, $new_value, $call)
     };
 }
 
@@ -75,7 +78,7 @@ fn did_without<R: Print + Abort>(
 /// Tries a call with its first allocation refused, then its second, and so on until none is refused. Each time it is
 /// made on a new value. It returns whether all is right, also that the value was unchanged before it, or the number of
 /// its fault; then it is repeated on the same value, with all its memory.
-pub fn each_refused_on<R, T, M, C>(
+pub fn each_refused<R, T, M, C>(
     rt: &R,
     alloc: Global,
     name: &str,
@@ -111,22 +114,4 @@ where
         spared = spared.saturating_add(u32::from(is_spared));
     }
     Err("a call that makes requests without end".into())
-}
-
-/// Tries a call that leaves its arguments unchanged. The call returns whether its value is right, or the number of its
-/// fault.
-pub fn each_refused<R, C>(rt: &R, alloc: Global, name: &str, call: C) -> Result<(), Fail>
-where
-    R: Print + Abort,
-    C: Fn(Global) -> Result<bool, u32>,
-    requires { C.IsAlwaysCallable call }
-{
-    each_refused_on(
-        rt,
-        alloc,
-        name,
-        Spares::Nothing,
-        |_: Global| Ok(()),
-        |alloc: Global, _: &mut ()| call(alloc),
-    )
 }

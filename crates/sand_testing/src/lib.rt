@@ -9,5 +9,4 @@ pub mod pile_with_passes;
 pub mod piles;
 pub mod records;
 pub mod runs;
-pub mod shared;
 pub mod words;
