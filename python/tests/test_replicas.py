@@ -212,13 +212,19 @@ class Tables(unittest.TestCase):
                 taken = [weakref.ref(table) for table in tables]
             self.assertTrue(soon(lambda: not any(table() is not None for table in taken)))
 
+    def assert_shown(self, pattern, modules):
+        shown = io.StringIO()
+        with contextlib.redirect_stderr(shown), mock.patch.dict(sys.modules, modules):
+            tables = list(sandpile.replicas((9, 8), SEED, STREAMS, DROPS, progress=True))
+        self.assertRegex(shown.getvalue(), pattern)
+        self.assertTrue(all(map(same, tables, sandpile.replicas((9, 8), SEED, STREAMS, DROPS))))
+
     def test_progress(self):
-        for modules, pattern in (({}, r"27\.0k"), ({"tqdm": None, "tqdm.auto": None}, r"\r27,000 of 27,000 drops\n$")):
-            shown = io.StringIO()
-            with contextlib.redirect_stderr(shown), mock.patch.dict(sys.modules, modules):
-                tables = list(sandpile.replicas((9, 8), SEED, STREAMS, DROPS, progress=True))
-            self.assertRegex(shown.getvalue(), pattern)
-            self.assertTrue(all(map(same, tables, sandpile.replicas((9, 8), SEED, STREAMS, DROPS))))
+        self.assert_shown(r"\r27,000 of 27,000 drops\n$", {"tqdm": None, "tqdm.auto": None})
+
+    @needs_module("tqdm")
+    def test_progress_by_tqdm(self):
+        self.assert_shown(r"27\.0k", {})
 
 
 def measured(run):
