@@ -134,12 +134,18 @@ class Drops(unittest.TestCase):
         again = pickle.loads(pickle.dumps(run))
         self.assertTrue(same(run.drop(500), again.drop(500)))
 
+    def assert_shown(self, pattern, modules):
+        shown, run = io.StringIO(), sandpile.Drive(FULL)
+        with contextlib.redirect_stderr(shown), mock.patch.dict(sys.modules, modules):
+            run.drop(20_000, progress=True)
+        self.assertRegex(shown.getvalue(), pattern)
+
     def test_progress(self):
-        for modules in ({}, {"tqdm": None, "tqdm.auto": None}):
-            shown, run = io.StringIO(), sandpile.Drive(FULL)
-            with contextlib.redirect_stderr(shown), mock.patch.dict(sys.modules, modules):
-                run.drop(20_000, progress=True)
-            self.assertRegex(shown.getvalue(), r"20,000 of 20,000 drops\n$" if modules else r"20\.0k")
+        self.assert_shown(r"20,000 of 20,000 drops\n$", {"tqdm": None, "tqdm.auto": None})
+
+    @needs_module("tqdm")
+    def test_progress_by_tqdm(self):
+        self.assert_shown(r"20\.0k", {})
 
 
 class Broken:
