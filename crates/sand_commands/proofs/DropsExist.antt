@@ -107,7 +107,8 @@ avalanche_of g site v =
         size = refl;
         area = refl;
         within = reach.1.within;
-        reached = reach.1.reached;
+        reached = λ far. let (j, inside, topples, away) = reach.1.reached far in
+            record { at = j; inside = inside; topples = topples; away = away };
         all_lost = refl;
       },
     )

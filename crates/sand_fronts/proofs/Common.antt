@@ -31,7 +31,7 @@ pub use Rattle.sand_fronts.specs.Drops.{heights_on, grown_on, AreOutside, AreQui
 pub use Rattle.sand_fronts.specs.Filling.{Tells, IsFilled, IsInner}
 pub use Rattle.sand_fronts.specs.Marking.{MarksView, in_sets, AreMarked, has_mark, AreToppled, AreSites}
 pub use Rattle.sand_fronts.specs.Reading.{IsFirstOfEight, AreOfEight, AddsBetween, TellsEights}
-pub use Rattle.sand_fronts.specs.TileLists.{IsClear, waits, but, AreKept, AreListed}
+pub use Rattle.sand_fronts.specs.TileLists.{IsClear, waits, but, AreKept, AreListed, IsListed}
 pub use Rattle.sand_fronts.specs.TiledPiles.{tiled_view, IsTiledView, TiledView, IsTiledPile, HasDroppedOnTiles, by_site, toppled_between}
 pub use Rattle.sand_fronts.specs.Tiling.{across, down, pitch, tiles, place_of, seam_west, seam_east, tile_of, row_at, column_at, on_tiles, tile_flow, is_site, site_on, over_north, over_south, over_east}
 pub use Rattle.sand_fronts.specs.WaveSizes.{IsOneWave, HasWaves, Covers, WavesLead, AreWrittenTo}

@@ -1,5 +1,5 @@
 -- The places of tiles that leave a wave and are counted.
-use Rattle.sand_fronts.proofs.Common.{ℕ, suc, zero, max, List, [], ◌∷◌, ◌++◌, replicate, Vec, Global, length, get_or, cond, eqb, refl, ◌≡◌, ◌≢◌, ◌+◌, ◌*◌, ◌<◌, ◌≤◌, sym, ◌∙◌, ap, arith, ⊎_elim, inl, inr, subst, ◌⊎◌, bit_or, slice_index, vec_capacity, with_item, mul-le-mul_right, set, cases_eq, get_or-set_same, get_or-set_other, length-set, get_or-replicate, nat_tests, sum_below, one_at, sum_below_same, sum_below-add, sum_below-one_at, sum_below_none, Tile, bit, number, Count, counted, times, IsRecent, IsCount, no_recent, bit_le, bit_none, either, both_le, IsClear, tile_at, Counts, spilled_at, over_wave, with_wave, counts_of, marks_of, AreCounted, AddsSet, MarksView, in_sets, AreMarked}
+use Rattle.sand_fronts.proofs.Common.{ℕ, suc, zero, max, List, [], ◌∷◌, ◌++◌, replicate, Vec, Global, length, get_or, cond, eqb, refl, ◌≡◌, ◌≢◌, ◌+◌, ◌*◌, ◌<◌, ◌≤◌, sym, ◌∙◌, ap, arith, ⊎_elim, inl, inr, subst, ◌⊎◌, bit_or, slice_index, vec_capacity, with_item, mul-le-mul_right, set, cases_eq, get_or-set_same, get_or-set_other, length-set, get_or-replicate, nat_tests, sum_below, one_at, sum_below_same, sum_below-add, sum_below-one_at, sum_below_none, Tile, bit, number, Count, counted, times, IsRecent, IsCount, no_recent, bit_le, bit_none, either, both_le, IsClear, tile_at, Counts, spilled_at, over_wave, with_wave, counts_of, marks_of, AreCounted, AddsSet, MarksView, in_sets, AreMarked, IsListed}
 use Rattle.sand_tiles.specs.declared.counting.Recent.{Recent}
 use Rattle.sand_fronts.proofs.Gained.{tile_set}
 use Rattle.sand_fronts.proofs.Sums.{sum_below_most}
@@ -183,20 +183,21 @@ few_over_wave n ν τ = few_on_places n 7 (λ k p. number (ν k) p * bit (τ k).
 
 -- each number is in a list, from one position to before another, or it has P
 abbrev pub AreIn : (ℕ → Type 0) → List ℕ → ℕ → ℕ → Type 0
-AreIn P list from end = (m : ℕ) → P m ⊎ ((t : ℕ) × (from ≤ t) × (t < end) × (slice_index list t ≡ m))
+AreIn P list from end = (m : ℕ) → P m ⊎ IsListed list from end m
 
 -- the first of them comes to have Q
 pub rest_in : (P Q : ℕ → Type 0) (k : ℕ) (list : List ℕ) (position end : ℕ) → AreIn P list position end
     → ((m : ℕ) → P m → Q m) → Q k → k ≡ slice_index list position → AreIn Q list (position + 1) end
 rest_in P Q k list position end listed still here is m = ⊎_elim (λ (was : P m). inl (still m was))
-    (λ (at : (t : ℕ) × (position ≤ t) × (t < end) × (slice_index list t ≡ m)). ⊎_elim
-    (λ (now : at.0 ≡ position). inl (rw (← at.3, now, ← is) here))
-    (λ (later : at.0 ≡ position → ⊥). inr (at.0, omega (arith, at.1), at.2, at.3))
-    (cases_eq at.0 position))
+    (λ (at : IsListed list position end m). ⊎_elim
+    (λ (now : at.index ≡ position). inl (rw (← at.is, now, ← is) here))
+    (λ (later : at.index ≡ position → ⊥).
+    inr (record { index = at.index; low = omega (arith, at.low); high = at.high; is = at.is }))
+    (cases_eq at.index position))
     (listed m)
 
 pub none_in : (P : ℕ → Type 0) (list : List ℕ) (position end : ℕ) → AreIn P list position end → end ≤ position
     → (m : ℕ) → P m
 none_in P list position end listed last m = ⊎_elim (λ (was : P m). was)
-    (λ (at : (t : ℕ) × (position ≤ t) × (t < end) × (slice_index list t ≡ m)). absurd (omega (arith, at.1, at.2)))
+    (λ (at : IsListed list position end m). absurd (omega (arith, at.low, at.high)))
     (listed m)

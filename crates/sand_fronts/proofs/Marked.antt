@@ -49,7 +49,7 @@ empty_or_listed ws list lists m = ⊎_elim (λ (none : slice_index ws m ≡ 0). 
     let past : length ws ≤ m → slice_index ws m ≡ 0 = get_or-eq_default ws 0 in
     let once = listed (length ws) (has_mark ws) list m lists (grind arith) (grind (arith, nat_tests)) in
     let turn = turn_of list m (omega arith) in
-    inr (turn.0, omega arith, turn.1, turn.2))
+    inr (record { index = turn.0; low = omega arith; high = turn.1; is = turn.2 }))
     (cases_eq (slice_index ws m) 0)
 
 -- with an empty list, all sets are empty

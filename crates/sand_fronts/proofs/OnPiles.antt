@@ -18,7 +18,12 @@ avalanche_same g site u v a same was = record {
   area = was.area ∙ sum_below_same (sites g) (λ j. one_if (has_toppled u j))
       (λ j. one_if (has_toppled v j)) (λ j l. ap (λ m. one_if (ltb 0 m)) (same j l));
   within = λ j l some. was.within j l (omega (arith, same j l));
-  reached = λ far. let one = was.reached far in (one.0, one.1, omega (arith, same one.0 one.1, one.2), one.3);
+  reached = λ far. let one = was.reached far in record {
+    at = one.at;
+    inside = one.inside;
+    topples = omega (arith, same one.at one.inside, one.topples);
+    away = one.away;
+  };
   all_lost = was.all_lost ∙ sum_below_same (sites g) (λ j. missing g j * u j)
       (λ j. missing g j * v j) (λ j l. ap (λ m. missing g j * m) (same j l));
 }

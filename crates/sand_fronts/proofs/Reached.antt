@@ -149,7 +149,12 @@ some_reached g site v are each in_sets far =
     let has = one.here.is in
     let marked = each one.tile one.here.place one.here.low in
     let own = on_site g (λ i. one_if (ltb 0 (v i))) one.tile one.here.place one.is in
-    (site_on g one.tile one.here.place, one.inside, grind (arith, nat_tests), one.distant)
+    record {
+      at = site_on g one.tile one.here.place;
+      inside = one.inside;
+      topples = grind (arith, nat_tests);
+      away = one.distant;
+    }
 
 -- ---- the reach fits into 32 bits
 

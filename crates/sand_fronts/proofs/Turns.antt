@@ -1,5 +1,5 @@
 -- The turns of a wave: each waiting tile is visited.
-use Rattle.sand_fronts.proofs.Common.{ℕ, Bool, true, eqb, ltb, cond, inl, inr, ◌⊎◌, List, [], ◌∷◌, ◌≡◌, ◌≢◌, ◌+◌, ◌-◌, ◌*◌, ◌%◌, ◌^◌, ◌<◌, ◌≤◌, length, drop, get_or, add-one, drop-cons, refl, sym, ◌∙◌, ap, arith, ⊎_elim, trailing_zeros, ltb-true, ltb-false, eq-eqb, ne_eqb, and_right, nat_tests, common_steps, set, length-drop, get_or-set_same, get_or-set_other, Grid, sites, one_at, topplings, Lists, one_if, ListView, Joins, longer, kept_before, waiting_from, lists_from, lists_length, none_passes, front_passes, sum_below_same, sum_below-add, one_at_same, one_at_other, Tile, bit, IsReady, Visits, bit_le, bit_none, cut, Beside, tiles, tile_of, place_of, site_on, at_site, toppled, only, put, tile_at, AreOpen, AreDueFree, IsNoneDue, Gains, over_rim, PairSteps, IsBeside, AtTile, AreBeside, beside_at, AreAtRest, heights_before, waits, but, IsClear, AreKept}
+use Rattle.sand_fronts.proofs.Common.{ℕ, Bool, true, eqb, ltb, cond, inl, inr, ◌⊎◌, List, [], ◌∷◌, ◌≡◌, ◌≢◌, ◌+◌, ◌-◌, ◌*◌, ◌%◌, ◌^◌, ◌<◌, ◌≤◌, length, drop, get_or, add-one, drop-cons, refl, sym, ◌∙◌, ap, arith, ⊎_elim, trailing_zeros, ltb-true, ltb-false, eq-eqb, ne_eqb, and_right, nat_tests, common_steps, set, length-drop, get_or-set_same, get_or-set_other, Grid, sites, one_at, topplings, Lists, one_if, ListView, Joins, longer, kept_before, waiting_from, lists_from, lists_length, none_passes, front_passes, sum_below_same, sum_below-add, one_at_same, one_at_other, Tile, bit, IsReady, Visits, bit_le, bit_none, cut, Beside, tiles, tile_of, place_of, site_on, at_site, toppled, only, put, tile_at, AreOpen, AreDueFree, IsNoneDue, Gains, over_rim, PairSteps, IsBeside, AtTile, AreBeside, beside_at, AreAtRest, heights_before, waits, but, IsClear, AreKept, IsListed}
 use Rattle.std.specs.Int.{w64}
 use Rattle.sand_model.proofs.Bounds.{at_most_sum_below, at_most_all}
 use Rattle.sand_fronts.proofs.OnTiles.{place_below, there_again, at_on, on_below, height_low}
@@ -90,15 +90,14 @@ none_left ts n each none m p low = entry_each blank (λ i (t : Tile). bit t.due 
 
 -- ---- the tiles with sites that have toppled
 
-abbrev pub Keeps : List ℕ → ℕ → ℕ → Type 0
-Keeps list kept k = (t : ℕ) × (0 ≤ t) × (t < kept) × (get_or list t 0 ≡ k)
-
 pub kept_on : {n kept : ℕ} {τ σ : ℕ → Tile} {before after : List ℕ} → AreKept n before kept τ
     → ((t : ℕ) → t < kept → get_or after t 0 ≡ get_or before t 0)
     → ((m p : ℕ) → p < 64 → bit (σ m).wave p ≡ bit (τ m).wave p) → AreKept n after kept σ
 kept_on {n} {kept} {τ} {σ} {before} {after} all same each = record {
   listed = λ m. ⊎_elim (λ (clear : IsClear (τ m)). inl (λ p low. each m p low ∙ clear p low))
-      (λ (at : Keeps before kept m). inr (at.0, at.1, at.2, same at.0 at.2 ∙ at.3)) (all.listed m);
+      (λ (at : IsListed before 0 kept m).
+      inr (record { index = at.index; low = at.low; high = at.high; is = same at.index at.high ∙ at.is }))
+      (all.listed m);
   on_board = λ t below. omega arith;
 }
 
@@ -106,7 +105,8 @@ kept_on {n} {kept} {τ} {σ} {before} {after} all same each = record {
 pub first_kept : (n k : ℕ) (t : Tile) (τ : ℕ → Tile) → ((m : ℕ) → IsClear (τ m)) → k < n
     → AreKept n (k ∷ []) 1 (put k t τ)
 first_kept n k t τ clear inside = record {
-  listed = cond_each (λ m x. IsClear x ⊎ Keeps (k ∷ []) 1 m) τ k t (inr (0, omega arith, omega arith, refl))
+  listed = cond_each (λ m x. IsClear x ⊎ IsListed (k ∷ []) 0 1 m) τ k t
+      (inr (record { index = 0; low = omega arith; high = omega arith; is = refl }))
       (λ m ne. inl (clear m));
   on_board = λ i less. let e : i ≡ 0 = omega arith in rw e inside;
 }
@@ -117,17 +117,27 @@ pub keep_one : {n kept next : ℕ} {τ : ℕ → Tile} {list : List ℕ} {t : Ti
     → AreKept n (set list kept k) next (put k new τ) × (next ≤ kept + 1)
 keep_one {n} {kept} {next} {τ} {list} {t} k new all inside less read fits is =
     let range : (kept ≤ next) × (next ≤ kept + 1) = grind (arith, nat_tests) in
-    let stays : (m : ℕ) → Keeps list kept m → Keeps (set list kept k) next m = λ m at.
-    (at.0, at.1, omega (arith, at.2), get_or-set_other list kept at.0 k 0 (λ e. omega (arith, at.2)) ∙ at.3) in (
+    let stays : (m : ℕ) → IsListed list 0 kept m → IsListed (set list kept k) 0 next m = λ m at.
+    record {
+      index = at.index;
+      low = at.low;
+      high = omega (arith, at.high);
+      is = get_or-set_other list kept at.index k 0 (λ e. omega (arith, at.high)) ∙ at.is;
+    } in (
       record {
-        listed = cond_each (λ m x. IsClear x ⊎ Keeps (set list kept k) next m) τ k new
+        listed = cond_each (λ m x. IsClear x ⊎ IsListed (set list kept k) 0 next m) τ k new
             (⊎_elim
             (λ (clear : IsClear (τ k)).
             let z = no_place t.wave (λ p low. rw read (clear p low)) in
             let first = rw (eq-eqb t.wave 0 (omega arith)) at is in
-            inr (kept, omega arith, omega arith, get_or-set_same list kept k 0 less))
-            (λ (at : Keeps list kept k). inr (stays k at)) (all.listed k))
-            (λ m ne. ⊎_elim inl (λ (at : Keeps list kept m). inr (stays m at)) (all.listed m));
+            inr (record {
+              index = kept;
+              low = omega arith;
+              high = omega arith;
+              is = get_or-set_same list kept k 0 less;
+            }))
+            (λ (at : IsListed list 0 kept k). inr (stays k at)) (all.listed k))
+            (λ m ne. ⊎_elim inl (λ (at : IsListed list 0 kept m). inr (stays m at)) (all.listed m));
         on_board = λ i below. let before = all.on_board i in grind (arith, nat_tests, common_steps);
       },
       range.1,

@@ -13,8 +13,11 @@ abbrev pub area_of : Grid → (ℕ → ℕ) → ℕ
 area_of g v = sum_below (sites g) (λ j. one_if (has_toppled v j))
 
 -- d is the distance from a site to a site that topples
-abbrev pub IsReached : Grid → ℕ → (ℕ → ℕ) → ℕ → Type 0
-IsReached g site v d = (j : ℕ) × (j < sites g) × (0 < v j) × (distance g site j ≡ d)
+pub record IsReached (g : Grid) (site : ℕ) (v : ℕ → ℕ) (d : ℕ) : Type 0 where
+  pub at : ℕ
+  pub inside : at < sites g
+  pub topples : 0 < v at
+  pub away : distance g site at ≡ d
 
 -- a drop at the site topples each site j v j times; the reach is the greatest distance of a site that topples, or 0
 pub record IsAvalanche (g : Grid) (site : ℕ) (v : ℕ → ℕ) (a : Avalanche) : Type 0 where

@@ -15,10 +15,16 @@ but k p m = not (m == k) && p m
 abbrev pub IsClear : Tile → Type 0
 IsClear t = (p : ℕ) → p < 64 → bit t.wave p ≡ 0
 
--- each tile with a site that has toppled in this wave is in a list, from one position to before another
+-- a number is in a list, from one position to before another
+pub record IsListed (list : List ℕ) (from end m : ℕ) : Type 0 where
+  pub index : ℕ
+  pub low : from ≤ index
+  pub high : index < end
+  pub is : slice_index list index ≡ m
+
+-- each tile with a site that has toppled in this wave is there
 abbrev pub AreListed : List ℕ → ℕ → ℕ → (ℕ → Tile) → Type 0
-AreListed list from end τ =
-    (m : ℕ) → IsClear (τ m) ⊎ ((t : ℕ) × (from ≤ t) × (t < end) × (slice_index list t ≡ m))
+AreListed list from end τ = (m : ℕ) → IsClear (τ m) ⊎ IsListed list from end m
 
 -- the first tiles of a list are among the first n, and among them is each tile with a site that has toppled
 pub record AreKept (n : ℕ) (list : List ℕ) (kept : ℕ) (τ : ℕ → Tile) : Type 0 where
