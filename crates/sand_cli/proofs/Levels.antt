@@ -62,10 +62,10 @@ module _ (m n : ℕ) (width : IsText 18446744073709551615 1 256 m) (height : IsT
 
 pub identity_asks : (m n : ℕ) → (1 ≤ m) × (m ≤ 256) × (1 ≤ n) × (n ≤ 256) → (cylinder pgm : Bool)
     → Asks identity_built (Identity m n cylinder pgm)
-identity_asks m n within =
+identity_asks m n (some_wide, wide, some_high, high) =
     sides_ask m n
-    (number_text 18446744073709551615 1 256 m within.0 within.1 (omega arith) (omega arith))
-    (number_text 18446744073709551615 1 256 n within.2 within.3 (omega arith) (omega arith))
+    (number_text 18446744073709551615 1 256 m some_wide wide (omega arith) (omega arith))
+    (number_text 18446744073709551615 1 256 n some_high high (omega arith) (omega arith))
 
 -- ---- `drops` and `lab`, whose numbers have 32 bits
 
