@@ -45,10 +45,10 @@ pub use Rattle.sand_model.specs.Piles.{most_grains, PileView, height_of}
 pub use Rattle.sand_model.specs.Grid.{Grid, sites}
 pub use Rattle.sand_settle.specs.Settling.{SettledView, IsSettledRecord, odometer_of}
 pub use Rattle.sand_settle.specs.Avalanches.{Avalanche, IsAvalanche}
-pub use Rattle.sand_settle.specs.Drops.{DrivenView, grid_of_driven, topplings_between, Drops, IsAfter}
+pub use Rattle.sand_settle.specs.Drops.{DrivenView, grid_of_driven, topplings_between, Drops, IsAfter, HasAvalanche, AreAvalanches}
 pub use Rattle.sand_model.specs.Edges.{most_to_edge}
 pub use Rattle.sand_c.specs.Arguments.{Fails, Answers, Returns, IsAnswer, edge_of, grid_of, shaped, sides_of}
-pub use Rattle.sand_c.specs.Dropping.{AreAvalanches, are_sites}
+pub use Rattle.sand_c.specs.Dropping.{are_sites}
 pub use Rattle.sand_c.specs.Handles.{c_heap, may_free, owns_at, lent_from, seen_in}
 pub use Rattle.sand_c.specs.Settling.{are_within, AreRecords, settling_of, IsSettlingAt}
 pub use Rattle.sand_c.specs.Waves.{waves_from, AreWavesOf, AreWaves}

@@ -9,7 +9,6 @@ pub mod LentSteps
 pub mod ReadSteps
 pub mod Readers
 pub mod Records
-pub mod Rows
 pub mod SettledAt
 pub mod Sites
 pub mod Unfit

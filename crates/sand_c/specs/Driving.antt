@@ -4,11 +4,11 @@ use Rattle.sand_model.specs.Grid.{sites}
 use Rattle.sand_model.specs.Piles.{PileView, height_of, most_grains}
 use Rattle.sand_settle.specs.Avalanches.{Avalanche, IsAvalanche}
 use Rattle.sand_settle.specs.Settling.{odometer_of}
-use Rattle.sand_settle.specs.Drops.{DrivenView, grid_of_driven, topplings_between, IsAfter, Drops}
+use Rattle.sand_settle.specs.Drops.{DrivenView, grid_of_driven, topplings_between, IsAfter, Drops, AreAvalanches}
 use Rattle.sand_c.specs.declared.faults.Fault.{Fault}
 use Rattle.sand_c.specs.declared.faults.Fault.TheVariants.{Length, Full, NoSite, Empty, Taken}
 use Rattle.sand_c.specs.Arguments.{has_length, ◌>>=◌}
-use Rattle.sand_c.specs.Dropping.{AreAvalanches, are_sites}
+use Rattle.sand_c.specs.Dropping.{are_sites}
 
 -- What a call may do
 

@@ -3,8 +3,8 @@
 ghost use Rattle.std.specs.Prelude.{◌≡◌, ◌+◌, ◌<◌, ◌≤◌, ℕ, List, ◌++◌, length, All, IfOk, OnOk, OnErr, IsTrue};
 ghost use Rattle.sand_model.specs.Grid.{sites};
 ghost use Rattle.sand_model.specs.Piles.{PileView, most_grains};
-ghost use Rattle.sand_settle.specs.Drops.{grid_of_driven, IsAfter};
-ghost use Rattle.sand_c.specs.Dropping.{AreAvalanches, are_sites};
+ghost use Rattle.sand_settle.specs.Drops.{grid_of_driven, IsAfter, AreAvalanches};
+ghost use Rattle.sand_c.specs.Dropping.{are_sites};
 
 use crate::SandpileAvalanche;
 use sand_settle::DrivenPile;

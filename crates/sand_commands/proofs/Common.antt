@@ -13,14 +13,14 @@ pub use Rattle.sand_text.specs.Reading.{pile_of, ◌>>=◌, front_of, sites_amon
 pub use Rattle.sand_cli.specs.declared.task.Draw.{Draw}
 pub use Rattle.sand_streams.specs.Streams.{site_at, stream_sites, Reading}
 pub use Rattle.sand_settle.specs.Avalanches.{Avalanche, area_of, IsAvalanche}
-pub use Rattle.sand_settle.specs.Drops.{DrivenView, IsAfter, grid_of_driven, Drops, TakesGrain, topplings_between}
+pub use Rattle.sand_settle.specs.Drops.{DrivenView, IsAfter, grid_of_driven, Drops, TakesGrain, topplings_between, HasAvalanche, AreAvalanches}
 pub use Rattle.sand_text.proofs.Growing.{breaks_before, breaks_on, grows_on, breaks_within, stays}
 pub use Rattle.sand_text.specs.declared.fault.StreamFault.{StreamFault}
 pub use Rattle.sand_cli.specs.declared.task.Part.{Part}
 pub use Rattle.sand_settle.specs.Settling.{SettledView, odometer_of}
-pub use Rattle.sand_settle.proofs.Drops.{after_drop, avalanche_same}
+pub use Rattle.sand_settle.proofs.Drops.{after_drop, avalanche_same, avalanches_join, one_for_each}
 pub use Rattle.sand_commands.specs.Commands.{Finds, IsDropsFault, IsWritten, WorkEnds, IsSumFault, IsFaultWithoutLab, IsTextWithoutLab}
-pub use Rattle.sand_commands.specs.DropsCommand.{IsOverfull, drawn_sites, with_draw, AreRows, IsDropsText, drops_in, AreNoted, is_pile}
+pub use Rattle.sand_commands.specs.DropsCommand.{IsOverfull, drawn_sites, with_draw, numbered, AreRows, IsDropsText, drops_in, AreNoted, is_pile}
 pub use Rattle.sand_commands.specs.Faults.{of_text, of_stream, number_of, of_shape, of_one, of_group, of_read, of_words, KeepNumbers}
 pub use Rattle.sand_commands.specs.Streaming.{AreAdded, BreaksInRows, end_in, head_in, rows_in, pile_and_sums, row_in}
 pub use Rattle.sand_commands.specs.declared.faults.DeskFault.{DeskFault}

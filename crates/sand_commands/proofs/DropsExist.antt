@@ -1,9 +1,10 @@
 -- On a settled pile grains can drop at any sites, within the grain limit: each settles and causes an avalanche.
-use Rattle.sand_commands.proofs.Common.{ℕ, zero, suc, ◌≡◌, ◌+◌, ◌-◌, ◌<◌, ◌≤◌, refl, sym, ap, ◌∙◌, subst, arith, List, [], ◌∷◌, ◌++◌, All, map, length, sum, get_or, append_assoc, append-nil, ⊎_elim, range_with_len, cases_lt, get_or_past, length-append, All-head, All-tail, Grid, sites, distance, PileView, most_grains, Avalanche, area_of, IsAvalanche, DrivenView, IsAfter, Drops, TakesGrain, grid_of_driven, topplings_between, SettledView, odometer_of, after_drop, AreRows}
+use Rattle.sand_commands.proofs.Common.{ℕ, zero, suc, ◌≡◌, ◌+◌, ◌-◌, ◌<◌, ◌≤◌, refl, sym, ap, ◌∙◌, subst, arith, List, [], ◌∷◌, ◌++◌, All, map, length, sum, get_or, append_assoc, append-nil, ⊎_elim, range_with_len, cases_lt, get_or_past, length-append, All-head, All-tail, Grid, sites, distance, PileView, most_grains, Avalanche, area_of, IsAvalanche, DrivenView, IsAfter, Drops, TakesGrain, grid_of_driven, topplings_between, HasAvalanche, SettledView, odometer_of, after_drop, AreRows}
 use Rattle.std.proofs.lemmas.List.FromFn.{length-map-range_with_len, get_or-map-range_with_len}
 use Rattle.sand_model.specs.Sand.{one_at, topplings, lost, IsSettled}
 use Rattle.sand_model.proofs.EachSettles.{settles}
 use Rattle.sand_model.proofs.Sandpile.{settled_same}
+use Rattle.sand_commands.proofs.Rows.{no_drops, rows_first}
 
 -- a number for each site
 by_site : Grid → (ℕ → ℕ) → List ℕ
@@ -117,8 +118,7 @@ avalanche_of g site v =
 record DropsOn (v : DrivenView) (site : ℕ) : Type 0 where
   after : DrivenView
   avalanche : Avalanche
-  dropped : Drops v site after
-  is : IsAvalanche (grid_of_driven v) site (topplings_between v.settled after.settled) avalanche
+  has : HasAvalanche v site avalanche after
 
 drop_exists : (v : DrivenView) (site : ℕ)
     → length v.settled.odometer ≡ sites (grid_of_driven v)
@@ -131,14 +131,16 @@ drop_exists v site each inside room =
     record {
       after = w;
       avalanche = avalanche.0;
-      dropped = record {
-        inside = inside;
-        room = room;
-        settled = takes_grain r site done.0 done.1 each done.2;
-        number = refl;
-        grains = refl;
+      has = record {
+        drops = record {
+          inside = inside;
+          room = room;
+          settled = takes_grain r site done.0 done.1 each done.2;
+          number = refl;
+          grains = refl;
+        };
+        avalanche = avalanche.1;
       };
-      is = avalanche.1;
     }
 
 -- what some drops, and more after them, lead to
@@ -157,7 +159,7 @@ drops_exist start past [] n v after inside few =
     record {
       rows = [];
       last = v;
-      dropped = (refl, refl);
+      dropped = no_drops n v;
       end = subst P (sym (append-nil past)) after;
     }
 drops_exist start past (site ∷ more) n v after inside few =
@@ -165,7 +167,7 @@ drops_exist start past (site ∷ more) n v after inside few =
     let first = drop_exists v site (after.settled.odometer_each ∙ sym grid)
     (let l = All-head (λ j. j < sites start.grid) site more inside in omega (arith, l, grid))
     (let grains = after.grains in omega (arith, grains, few)) in
-    let next = after_drop start past site v first.after first.dropped after in
+    let next = after_drop start past site v first.after first.has.drops after in
     let longer = length-append past (site ∷ []) in
     let rest = drops_exist start (past ++ site ∷ []) more (n + 1) first.after next
     (All-tail (λ j. j < sites start.grid) site more inside) (omega (arith, longer, few)) in
@@ -173,6 +175,7 @@ drops_exist start past (site ∷ more) n v after inside few =
     record {
       rows = (n, first.avalanche) ∷ rest.rows;
       last = rest.last;
-      dropped = (first.after, first.avalanche, rest.rows, first.dropped, first.is, refl, rest.dropped);
+      dropped = rows_first n v first.after rest.last site more first.avalanche rest.rows
+          first.has.drops first.has.avalanche rest.dropped;
       end = subst P (append_assoc past (site ∷ []) more) rest.end;
     }

@@ -1,11 +1,12 @@
 -- A drop depends only on its site and the pile before it, so a run that continues from the pile of another is the rest
 -- of a single run.
-use Rattle.sand_commands.proofs.Common.{common_steps, ◌≡◌, ◌∙◌, ◌+◌, ◌<◌, ◌≤◌, ℕ, List, [], ◌∷◌, ◌++◌, drop, length, refl, sym, ap, ap₂, subst, arith, get_or, Result, Ok, Err, cases_lt, ext_get_or, Grid, sites, PileView, Avalanche, IsAvalanche, DrivenView, IsAfter, Drops, grid_of_driven, topplings_between, odometer_of, avalanche_same, stream_sites, TextFault, pile_of, ◌>>=◌, Draw, AreRows, drawn_sites, with_draw}
+use Rattle.sand_commands.proofs.Common.{common_steps, ◌≡◌, ◌∙◌, ◌+◌, ◌<◌, ◌≤◌, ℕ, List, [], ◌∷◌, ◌++◌, drop, length, refl, sym, ap, ap₂, subst, arith, get_or, Result, Ok, Err, cases_lt, ext_get_or, Grid, sites, PileView, Avalanche, IsAvalanche, DrivenView, IsAfter, Drops, grid_of_driven, topplings_between, odometer_of, avalanche_same, one_for_each, stream_sites, TextFault, pile_of, ◌>>=◌, Draw, AreAvalanches, numbered, drawn_sites, with_draw}
 use Rattle.sand_model.specs.Sand.{one_at, occurrences, IsSettled, IsStable}
 use Rattle.sand_model.proofs.Sandpile.{settled_once, settled_stable}
 use Rattle.sand_model.proofs.Underway.{underway_start, underway_end}
 use Rattle.sand_commands.specs.Parts.{IsCutInTwo, RunsInParts}
 use Rattle.sand_commands.proofs.DrawnSites.{drawn_split, length-drawn}
+use Rattle.sand_commands.proofs.Rows.{numbered_join}
 
 -- ---- one drop
 
@@ -62,55 +63,45 @@ same_drop v w v' w' site a b same drop drop' is is' =
           (avalanche_same p.grid site (topplings_between v.settled w.settled) u' a (λ j l. (once j l).0) is) set_off,
     )
 
--- ---- the rows
+-- ---- the avalanches
 
-same_rows : (n : ℕ) (v w v' w' : DrivenView) (places : List ℕ) (rows rows' : List (ℕ × Avalanche))
+same_avalanches : (v w v' w' : DrivenView) (places : List ℕ) (these those : List Avalanche)
     → v.settled.pile ≡ v'.settled.pile
-    → AreRows n v places rows w → AreRows n v' places rows' w'
-    → (rows ≡ rows') × (w.settled.pile ≡ w'.settled.pile)
-same_rows n v w v' w' [] rows rows' same (none, end) (none', end') = (
-  none ∙ sym none',
-  ap (λ (x : DrivenView). x.settled.pile) (sym end) ∙ same ∙ ap (λ (x : DrivenView). x.settled.pile) end',
-)
-same_rows n v w v' w' (site ∷ places) rows rows' same
-    (u, a, others, drop, is, e, rest) (u', a', others', drop', is', e', rest') =
-    let first = same_drop v u v' u' site a a' same drop drop' is is' in
-    let after = same_rows (n + 1) u w u' w' places others others' first.0 rest rest' in
-    (e ∙ ap₂ (λ (b : Avalanche) (xs : List (ℕ × Avalanche)). (n, b) ∷ xs) first.1 after.0 ∙ sym e', after.1)
+    → AreAvalanches v places these w → AreAvalanches v' places those w'
+    → (these ≡ those) × (w.settled.pile ≡ w'.settled.pile)
+same_avalanches v w v' w' [] [] [] same end end' =
+    (refl, ap (λ (x : DrivenView). x.settled.pile) (sym end) ∙ same ∙ ap (λ (x : DrivenView). x.settled.pile) end')
+same_avalanches v w v' w' [] (a ∷ these) those same none are = absurd none
+same_avalanches v w v' w' [] [] (b ∷ those) same end none = absurd none
+same_avalanches v w v' w' (site ∷ places) [] those same none are = absurd none
+same_avalanches v w v' w' (site ∷ places) (a ∷ these) [] same are none = absurd none
+same_avalanches v w v' w' (site ∷ places) (a ∷ these) (b ∷ those) same (u, first, rest) (u', first', rest') =
+    let one = same_drop v u v' u' site a b same first.drops first'.drops first.avalanche first'.avalanche in
+    let after = same_avalanches u w u' w' places these those one.0 rest rest' in
+    (ap₂ (λ x xs. x ∷ xs) one.1 after.0, after.1)
 
--- the rows of the first drops, and those of the rest
-record AreSplit (n : ℕ) (v : DrivenView) (places later : List ℕ) (rows : List (ℕ × Avalanche)) (w : DrivenView) : Type 0 where
+-- the avalanches of the first drops, and those of the rest
+record AreSplit (v : DrivenView) (places later : List ℕ) (all : List Avalanche) (w : DrivenView) : Type 0 where
   middle : DrivenView
-  front : List (ℕ × Avalanche)
-  back : List (ℕ × Avalanche)
-  begins : AreRows n v places front middle
-  ends : AreRows (n + length places) middle later back w
-  all : rows ≡ front ++ back
+  front : List Avalanche
+  back : List Avalanche
+  begins : AreAvalanches v places front middle
+  ends : AreAvalanches middle later back w
+  is : all ≡ front ++ back
 
-rows_split : (n : ℕ) (v w : DrivenView) (places later : List ℕ) (rows : List (ℕ × Avalanche))
-    → AreRows n v (places ++ later) rows w → AreSplit n v places later rows w
-rows_split n v w [] later rows are =
-    let P : ℕ → Type 0 = λ k. AreRows k v later rows w in
-    let here : n ≡ n + 0 = omega arith in
-    record {
-      middle = v;
-      front = [];
-      back = rows;
-      begins = (refl, refl);
-      ends = subst P here are;
-      all = refl;
-    }
-rows_split n v w (site ∷ places) later rows (u, a, others, drop, is, e, rest) =
-    let after = rows_split (n + 1) u w places later others rest in
-    let P : ℕ → Type 0 = λ k. AreRows k after.middle later after.back w in
-    let long : n + 1 + length places ≡ n + length (site ∷ places) = omega arith in
+split : (v w : DrivenView) (places later : List ℕ) (all : List Avalanche) → AreAvalanches v (places ++ later) all w
+    → AreSplit v places later all w
+split v w [] later all are = record { middle = v; front = []; back = all; begins = refl; ends = are; is = refl }
+split v w (site ∷ places) later [] none = absurd none
+split v w (site ∷ places) later (a ∷ all) (u, first, rest) =
+    let after = split u w places later all rest in
     record {
       middle = after.middle;
-      front = (n, a) ∷ after.front;
+      front = a ∷ after.front;
       back = after.back;
-      begins = (u, a, after.front, drop, is, refl, after.begins);
-      ends = subst P long after.ends;
-      all = e ∙ ap (λ xs. (n, a) ∷ xs) after.all;
+      begins = (u, first, after.begins);
+      ends = after.ends;
+      is = ap (λ xs. a ∷ xs) after.is;
     }
 
 -- ---- what was read
@@ -208,22 +199,27 @@ runs_in_parts whole first second a b c input left all one other cut uncut begun 
     let places : uncut.sites ≡ begun.sites ++ resumed.sites =
     sym w.places_are ∙ ap (λ (p : PileView). drawn_sites (sites p.grid) whole) start
     ∙ sites_in_parts n whole first second cut ∙ ap₂ (λ (xs ys : List ℕ). xs ++ ys) (sym front) (sym back) in
-    let P : List ℕ → Type 0 = λ xs. AreRows whole.from uncut.first xs uncut.rows uncut.last in
+    let all = uncut.dropped in let one = begun.dropped in let two = resumed.dropped in
+    let P : List ℕ → Type 0 = λ xs. AreAvalanches uncut.first xs all.avalanches uncut.last in
     let parts =
-    rows_split whole.from uncut.first uncut.last begun.sites resumed.sites uncut.rows (subst P places uncut.dropped) in
-    let Q : ℕ → Type 0 = λ k. AreRows k begun.first begun.sites begun.rows begun.last in
-    let first_half = same_rows whole.from uncut.first parts.middle begun.first begun.last begun.sites parts.front
-    begun.rows (same_start uncut.pile begun.pile uncut.first begun.first start uncut.start begun.start)
-    parts.begins (subst Q cut.starts begun.dropped) in
+    split uncut.first uncut.last begun.sites resumed.sites all.avalanches (subst P places all.dropped) in
+    let first_half = same_avalanches uncut.first parts.middle begun.first begun.last begun.sites parts.front
+    one.avalanches (same_start uncut.pile begun.pile uncut.first begun.first start uncut.start begun.start)
+    parts.begins one.dropped in
     let R : PileView → Type 0 = λ p. IsAfter p [] resumed.first in
     let again : IsAfter begun.last.settled.pile [] resumed.first = subst R next resumed.start in
     let calm : begun.last.settled.pile ≡ resumed.first.settled.pile =
     rests begun.pile begun.sites begun.last resumed.first begun.end again in
     let long : length begun.sites ≡ first.count =
     ap length front ∙ length-drawn n first.seed first.stream first.from first.count (first.from + first.count) refl in
-    let number : second.from ≡ whole.from + length begun.sites =
-    let starts = cut.starts in let goes_on = cut.goes_on in omega (arith, starts, goes_on, long) in
-    let S : ℕ → Type 0 = λ k. AreRows k resumed.first resumed.sites resumed.rows resumed.last in
-    let second_half = same_rows (whole.from + length begun.sites) parts.middle uncut.last resumed.first resumed.last
-    resumed.sites parts.back resumed.rows (first_half.1 ∙ calm) parts.ends (subst S number resumed.dropped) in
-    (parts.all ∙ ap₂ (λ (xs ys : List (ℕ × Avalanche)). xs ++ ys) first_half.0 second_half.0, second_half.1)
+    let number : second.from ≡ first.from + length one.avalanches =
+    omega (arith, cut.goes_on, long, one_for_each begun.first begun.last begun.sites one.avalanches one.dropped) in
+    let second_half = same_avalanches parts.middle uncut.last resumed.first resumed.last
+    resumed.sites parts.back two.avalanches (first_half.1 ∙ calm) parts.ends two.dropped in
+    let avalanches : all.avalanches ≡ one.avalanches ++ two.avalanches =
+    parts.is ∙ ap₂ (λ (xs ys : List Avalanche). xs ++ ys) first_half.0 second_half.0 in (
+      all.rows_are ∙ ap₂ numbered (sym cut.starts) avalanches
+          ∙ numbered_join first.from second.from one.avalanches two.avalanches number
+          ∙ sym (ap₂ (λ (xs ys : List (ℕ × Avalanche)). xs ++ ys) one.rows_are two.rows_are),
+      second_half.1,
+    )

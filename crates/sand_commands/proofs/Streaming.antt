@@ -5,7 +5,7 @@ use Rattle.sand_text.specs.Tables.{entries_text, entry_text, table_head}
 use Rattle.sand_text.specs.Texts.{sum_line, text_of}
 use Rattle.sand_cli.specs.declared.task.Part.TheVariants as parts
 use Rattle.sand_commands.proofs.DropsExist.{drops_exist}
-use Rattle.sand_commands.proofs.Rows.{rows_first, rows_join, rows_push}
+use Rattle.sand_commands.proofs.Rows.{no_drops, rows_first, rows_join, rows_push}
 
 -- ---- the parts of the text
 
@@ -59,7 +59,7 @@ pub none_added : (part : Part) (n : ℕ) (v : DrivenView) (sites : List ℕ) (he
 none_added part n v sites held b none =
     let P : List ℕ → Type 0 = λ l. AreRows n v l [] v in
     let Q : List ℕ → Type 0 = λ t. GrowsBy held held b b t in
-    record { rows = []; dropped = subst P (sym none) (refl, refl); grown = subst Q (sym (no_rows part)) (stays held b) }
+    record { rows = []; dropped = subst P (sym none) (no_drops n v); grown = subst Q (sym (no_rows part)) (stays held b) }
 
 pub row_added : (part : Part) (n m : ℕ) (v w u : DrivenView) (sites : List ℕ)
     (site : ℕ) (a : Avalanche) (held mid held' : Option (List ℕ)) (b c d : Waiting)

@@ -1,9 +1,9 @@
 -- What `drops` writes.
 use Rattle.std.specs.Prelude.{ℕ, ◌≡◌, ◌+◌, ◌<◌, Bool, true, false, if◌then◌else◌, List, [], ◌∷◌, ◌++◌, length, drop, sum, codes, Option, Some, None, Result, Ok}
 use Rattle.sand_model.specs.Piles.{PileView, most_grains}
-use Rattle.sand_settle.specs.Avalanches.{Avalanche, IsAvalanche}
+use Rattle.sand_settle.specs.Avalanches.{Avalanche}
 use Rattle.sand_settle.specs.Settling.{SettledView}
-use Rattle.sand_settle.specs.Drops.{DrivenView, grid_of_driven, topplings_between, IsAfter, Drops}
+use Rattle.sand_settle.specs.Drops.{DrivenView, IsAfter, AreAvalanches}
 use Rattle.sand_model.specs.Grid.{sites}
 use Rattle.sand_streams.specs.Streams.{stream_sites}
 use Rattle.sand_text.specs.declared.fault.TextFault.{TextFault}
@@ -31,12 +31,16 @@ abbrev pub first_number : Option Draw → ℕ
 first_number None = 0
 first_number (Some draw) = draw.from
 
+-- avalanches with the numbers of their drops, from n on
+abbrev pub numbered : ℕ → List Avalanche → List (ℕ × Avalanche)
+numbered n [] = []
+numbered n (a ∷ others) = (n, a) ∷ numbered (n + 1) others
+
 -- the drops at these sites lead from v to w, and each row has the number of its drop, counted from n, and its avalanche
-abbrev pub AreRows : ℕ → DrivenView → List ℕ → List (ℕ × Avalanche) → DrivenView → Type 0
-AreRows n v [] rows w = (rows ≡ []) × (v ≡ w)
-AreRows n v (site ∷ sites) rows w = (u : DrivenView) × (avalanche : Avalanche) × (others : List (ℕ × Avalanche))
-    × Drops v site u × IsAvalanche (grid_of_driven v) site (topplings_between v.settled u.settled) avalanche
-    × (rows ≡ (n, avalanche) ∷ others) × AreRows (n + 1) u sites others w
+pub record AreRows (n : ℕ) (v : DrivenView) (sites : List ℕ) (rows : List (ℕ × Avalanche)) (w : DrivenView) : Type 0 where
+  pub avalanches : List Avalanche
+  pub dropped : AreAvalanches v sites avalanches w
+  pub rows_are : rows ≡ numbered n avalanches
 
 -- the record of the drops at these sites, which lead from v to w: a row each, or nothing if only the pile is wanted
 abbrev pub AreNoted : Bool → DrivenView → List ℕ → List (ℕ × Avalanche) → DrivenView → Type 0

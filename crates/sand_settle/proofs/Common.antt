@@ -1,5 +1,5 @@
 -- The names that many proofs of this crate use, passed on from one place.
-pub use Rattle.std.proofs.Common.{ℕ, List, length, take, ◌≡◌, ◌+◌, ◌^◌, ◌<◌, ◌≤◌, refl, sym, ◌∙◌, ap, subst, arith, sum, slice_index, ◌*◌, [], ◌∷◌, ◌++◌, Option, Some, None, append_assoc, ⊎_elim, MatchOption, Bool, true, false, cond, ltb, min, ◌-◌, ◌/◌, ◌%◌, IfSome, if◌then◌else◌, replicate, get_or, ◌≢◌, drop, leb, not, ◌&&◌, map, inl, inr, rules, Result, IfOk, OnOk}
+pub use Rattle.std.proofs.Common.{suc, ℕ, List, length, take, ◌≡◌, ◌+◌, ◌^◌, ◌<◌, ◌≤◌, refl, sym, ◌∙◌, ap, subst, arith, sum, slice_index, ◌*◌, [], ◌∷◌, ◌++◌, Option, Some, None, append_assoc, ⊎_elim, MatchOption, Bool, true, false, cond, ltb, min, ◌-◌, ◌/◌, ◌%◌, IfSome, if◌then◌else◌, replicate, get_or, ◌≢◌, drop, leb, not, ◌&&◌, map, inl, inr, rules, Result, IfOk, OnOk}
 pub use Rattle.std.proofs.lemmas.List.{ext_get_or, length-append, append-nil, length-replicate, get_or-set_same, get_or-set_other, drop_more, length-map, get_or-replicate, get_or_past, take_at, length-set, nil_from_length}
 pub use Rattle.std.proofs.lemmas.Bool.{cases_lt, ltb-true, ltb-false, lt-leb, le-leb, leb-true, leb-false, and_parts, cases_eq}
 pub use Rattle.sand_model.specs.Grid.{sites, Grid, missing, joins, column, row, columns_apart, places, IsGrid}
@@ -17,7 +17,7 @@ pub use Rattle.sand_model.proofs.IndexLists.{joins_if, waiting_behind, joins_mor
 pub use Rattle.sand_model.specs.Underway.{Advances}
 pub use Rattle.sand_settle.specs.Avalanches.{Avalanche, IsAvalanche, HasWaves}
 pub use Rattle.sand_settle.specs.Driven.{driven_record, IsDriven}
-pub use Rattle.sand_settle.specs.Drops.{IsPaid, TakesGrain, topplings_between, DrivenView, IsAfter, Drops, DropsAll, driven_view, IsOnePile, grid_of_driven}
+pub use Rattle.sand_settle.specs.Drops.{IsPaid, TakesGrain, topplings_between, DrivenView, IsAfter, Drops, DropsAll, HasAvalanche, AreAvalanches, driven_view, IsOnePile, grid_of_driven}
 pub use Rattle.sand_settle.specs.Near.{AgreeFar, Tells}
 pub use Rattle.sand_settle.specs.Settling.{SettledView, IsSomeSettledRecord, odometer_of, IsSettledRecord}
 pub use Rattle.sand_settle.specs.SiteLists.{may_topple, UnstableJoin}

@@ -4,6 +4,7 @@ use Rattle.std.specs.Prelude.{ℕ, ◌≡◌, ◌+◌, ◌-◌, ◌*◌, ◌<◌
 use Rattle.sand_model.specs.Grid.{Grid, IsGrid, sites}
 use Rattle.sand_model.specs.Sand.{IsStable, IsSettled, one_at, occurrences, topplings, lost, weight}
 use Rattle.sand_model.specs.Piles.{PileView, IsPile, height_of, most_grains}
+use Rattle.sand_settle.specs.Avalanches.{Avalanche, IsAvalanche}
 use Rattle.sand_settle.specs.Settling.{SettledView, IsSettledRecord, odometer_of}
 
 -- the settled record since the start, the number of drops, and the grains of the start and the drops
@@ -51,6 +52,18 @@ pub record Drops (v : DrivenView) (site : ℕ) (w : DrivenView) : Type 0 where
 abbrev pub DropsAll : DrivenView → List ℕ → DrivenView → Type 0
 DropsAll v [] w = v ≡ w
 DropsAll v (site ∷ history) w = (u : DrivenView) × Drops v site u × DropsAll u history w
+
+-- a drop at a site leads from v to w, with this avalanche
+pub record HasAvalanche (v : DrivenView) (site : ℕ) (a : Avalanche) (w : DrivenView) : Type 0 where
+  pub drops : Drops v site w
+  pub avalanche : IsAvalanche (grid_of_driven v) site (topplings_between v.settled w.settled) a
+
+-- drops at the sites of a list, one by one, lead from v to w, with these avalanches
+abbrev pub AreAvalanches : DrivenView → List ℕ → List Avalanche → DrivenView → Type 0
+AreAvalanches v [] [] w = v ≡ w
+AreAvalanches v (site ∷ sites) (a ∷ others) w =
+    (u : DrivenView) × HasAvalanche v site a u × AreAvalanches u sites others w
+AreAvalanches v sites others w = ⊥
 
 -- what holds of a settled record by itself: its sums are right and small, however it came about
 pub record IsPaid (r : SettledView) : Type 0 where

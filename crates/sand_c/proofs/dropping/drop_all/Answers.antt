@@ -1,6 +1,6 @@
 use Rattle.sand_c.proofs.Common.{◌∙◌, ℕ, List, [], ◌∷◌, ◌++◌, subst, arith, take, get_or, Result, IfOk, OnOk, take_more, PileView, Avalanche, IsAvalanche, DrivenView, grid_of_driven, topplings_between, IsAfter, Drops, append_assoc}
 use Rattle.sand_settle.specs.declared.faults.OneFault.{OneFault}
-use Rattle.sand_c.proofs.Rows.{rows_push}
+use Rattle.sand_settle.proofs.Drops.{avalanches_push}
 use Rattle.sand_c.proofs.dropping.drop_all.Goals as goal
 
 pub loop-site-preserved : goal.loop-site-preserved
@@ -15,7 +15,8 @@ loop-site-preserved c =
     subst (λ (r : R). IfOk r (λ q. IsAvalanche (grid_of_driven v) site (topplings_between v.settled w.settled) q.1)) c.unwrap.ensures c.drop_at.ensures.avalanche in
     let after : (start : PileView) (history : List ℕ) → IsAfter start history v → IsAfter start (history ++ site ∷ []) w =
     subst (λ (r : R). OnOk r ((start : PileView) (history : List ℕ) → IsAfter start history v → IsAfter start (history ++ site ∷ []) w)) c.unwrap.ensures c.drop_at.ensures.after in
-    let noted = rows_push c.args.pile.now v w (take i c.args.drops.now) c.loop-site.rows.items site c.unwrap.result.1 c.loop-site.invariant.rows drops avalanche in
+    let noted = avalanches_push c.args.pile.now v w (take i c.args.drops.now) c.loop-site.rows.items site c.unwrap.result.1 c.loop-site.invariant.rows
+    (record { drops = drops; avalanche = avalanche }) in
     record {
       rows = rw (more, c.push_reserved.ensures.items) noted;
       after = λ start history first. rw more (subst (λ (l : List ℕ). IsAfter start l w) (append_assoc history (take i c.args.drops.now) (site ∷ []))
