@@ -37,10 +37,9 @@ pub(crate) struct Place {
 #[inline(always)]
 fn bits_of(numbers: &[i64], base: i64, bit: u32) -> u16 {
     let mut bits = 0u16;
-    for x in 0..numbers.len().min(COLUMNS) {
-        let number = numbers[x].wrapping_sub(base).cast_unsigned();
-        let is_set = number.wrapping_shr(bit) & 1 != 0;
-        bits |= u16::from(is_set) << x;
+    for number in numbers.iter().rev() {
+        let number = number.wrapping_sub(base).cast_unsigned();
+        bits = bits << 1 | (number.wrapping_shr(bit) & 1) as u16;
     }
     bits
 }

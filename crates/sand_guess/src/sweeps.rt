@@ -29,6 +29,11 @@ const MORE: u64 = 64;
 // The most sweeps there and back before a claim is given up: a lane holds all turns.
 const MOST_SWEEPS: u16 = 2_000;
 
+// For each lane the next one, and the one before. Lane 16 is the first of a second vector.
+const NEXT: [usize; SIDE] = [1, 2, 3, 4, 5, 6, 7, 8, 9, 10, 11, 12, 13, 14, 15, 16];
+
+const BEFORE: [usize; SIDE] = [16, 0, 1, 2, 3, 4, 5, 6, 7, 8, 9, 10, 11, 12, 13, 14];
+
 /// The sites of a column: their heights, how often each toppled, and the turn in which it toppled last. Next to it are
 /// the columns `west` and `east`, or none.
 #[derive(Clone, Copy)]
@@ -90,16 +95,8 @@ impl Column {
         let none = u16x16::splat(0);
         let sand = self.heights + grains;
         let times = sand >> u16x16::splat(2) & self.sites;
-        let north = times.shuffle(
-            none,
-            [1, 2, 3, 4, 5, 6, 7, 8, 9, 10, 11, 12, 13, 14, 15, 16],
-        );
-        let south = none.shuffle(
-            times,
-            [
-                0, 16, 17, 18, 19, 20, 21, 22, 23, 24, 25, 26, 27, 28, 29, 30,
-            ],
-        );
+        let north = times.shuffle(none, NEXT);
+        let south = times.shuffle(none, BEFORE);
         self.heights = (sand & u16x16::splat(3)) + north + south;
         self.counts += times;
         let is_toppled = times.simd_ne(none);
