@@ -1,4 +1,5 @@
 pub mod Pushed
+pub mod InnerPlaces
 pub mod TightIfBurning
 pub mod OneByOne
 pub mod TurnsOfOdometer

@@ -5,8 +5,8 @@
 //! the number of its neighbours whose turn is not earlier. If all sites pass, the counts are the least odometer
 //! (`laws`). It takes one pass over the grid.
 
-ghost use Rattle.std.specs.Prelude.{◌≡◌, ℕ, ◌+◌, ◌*◌, ◌^◌, ◌<◌, ◌≤◌, ◌↔◌, length, slice_index, nat_le, if◌then◌else◌, IfOk, IfSome, IsTrue, IsSome, MatchOption, All};
-ghost use Rattle.sand_model.specs.Grid.{sites};
+ghost use Rattle.std.specs.Prelude.{◌≡◌, ℕ, ◌+◌, ◌*◌, ◌^◌, ◌<◌, ◌≤◌, ◌↔◌, length, slice_index, slice_index_or, None, nat_le, if◌then◌else◌, IfOk, IfSome, IsTrue, IsSome, MatchOption, All};
+ghost use Rattle.sand_model.specs.Grid.{Grid, sites, places};
 ghost use Rattle.sand_model.specs.Sand.{flow, value_at, IsSettled};
 ghost use Rattle.sand_model.specs.Piles.{height_of, most_grains};
 ghost use Rattle.sand_certify.specs.Certificate.{no_earlier, IsShownAt, IsLeftAt, IsShownEverywhere, IsCertificate};
@@ -29,6 +29,23 @@ fn value(values: &[u64], neighbour: Option<usize>) -> u64
 }
 
 #[inline(always)]
+fn inflow_from(around: [Option<usize>; 4], counts: &[u64]) -> u64
+    requires inside { (k : ℕ) → IfSome (slice_index_or around k None) (λ j. j < length counts.now) }
+    requires bound { (j : ℕ) → slice_index counts.now j < 2 ^ 54 }
+    ensures value { (g : Grid) (site : ℕ) → around ≡ places g site → result ≡ flow g (slice_index counts.now) site }
+    ensures below { result < 4 * 2 ^ 54 }
+{
+    let [north, west, east, south] = around;
+    let up = value(counts, north);
+    let left = value(counts, west);
+    let right = value(counts, east);
+    let down = value(counts, south);
+    prove!(up < COUNT_LIMIT && left < COUNT_LIMIT && right < COUNT_LIMIT && down < COUNT_LIMIT);
+    up + left + right + down
+}
+
+// Most sites are inner: one test for this saves a test for each neighbour.
+#[inline(always)]
 pub(crate) fn inflow(lattice: &Lattice, counts: &[u64], site: usize) -> u64
     requires len { length counts.now ≡ sites lattice.now }
     requires site { site < sites lattice.now }
@@ -36,13 +53,13 @@ pub(crate) fn inflow(lattice: &Lattice, counts: &[u64], site: usize) -> u64
     ensures value { result ≡ flow lattice.now (slice_index counts.now) site }
     ensures below { result < 4 * 2 ^ 54 }
 {
-    let [north, west, east, south] = lattice.neighbours(site);
-    let up = value(counts, north);
-    let left = value(counts, west);
-    let right = value(counts, east);
-    let down = value(counts, south);
-    prove!(up < COUNT_LIMIT && left < COUNT_LIMIT && right < COUNT_LIMIT && down < COUNT_LIMIT);
-    up + left + right + down
+    if lattice.is_inner(site) {
+        let [north, west, east, south] = lattice.inner_neighbours(site);
+        let around = [Some(north), Some(west), Some(east), Some(south)];
+        inflow_from(around, counts)
+    } else {
+        inflow_from(lattice.neighbours(site), counts)
+    }
 }
 
 #[inline(always)]
@@ -57,18 +74,33 @@ fn is_no_earlier(turns: &[u32], turn: u32, neighbour: Option<usize>) -> u64
 }
 
 #[inline(always)]
-fn unburnt(lattice: &Lattice, turns: &[u32], site: usize) -> u64
-    requires len { length turns.now ≡ sites lattice.now }
-    requires site { site < sites lattice.now }
-    ensures { result ≡ no_earlier lattice.now (slice_index turns.now) site }
+fn unburnt_among(around: [Option<usize>; 4], turns: &[u32], turn: u32) -> u64
+    requires { (k : ℕ) → IfSome (slice_index_or around k None) (λ j. j < length turns.now) }
+    ensures { (g : Grid) (site : ℕ) → around ≡ places g site → slice_index turns.now site ≡ turn
+        → result ≡ no_earlier g (slice_index turns.now) site }
 {
-    let [north, west, east, south] = lattice.neighbours(site);
-    let turn = turns[site];
+    let [north, west, east, south] = around;
     let up = is_no_earlier(turns, turn, north);
     let left = is_no_earlier(turns, turn, west);
     let right = is_no_earlier(turns, turn, east);
     let down = is_no_earlier(turns, turn, south);
     up + left + right + down
+}
+
+#[inline(always)]
+fn unburnt(lattice: &Lattice, turns: &[u32], site: usize) -> u64
+    requires len { length turns.now ≡ sites lattice.now }
+    requires site { site < sites lattice.now }
+    ensures { result ≡ no_earlier lattice.now (slice_index turns.now) site }
+{
+    let turn = turns[site];
+    if lattice.is_inner(site) {
+        let [north, west, east, south] = lattice.inner_neighbours(site);
+        let around = [Some(north), Some(west), Some(east), Some(south)];
+        unburnt_among(around, turns, turn)
+    } else {
+        unburnt_among(lattice.neighbours(site), turns, turn)
+    }
 }
 
 // The height that the counts leave at a site, if they pass the three checks there.

@@ -1,5 +1,4 @@
 pub mod SiteLists
-pub mod Spread
 pub mod Underway
 pub mod Records
 pub mod Drops

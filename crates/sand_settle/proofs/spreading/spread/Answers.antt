@@ -1,5 +1,5 @@
 use Rattle.sand_model.proofs.Neighbours.{place_inside}
-use Rattle.sand_settle.proofs.Spread.{some_four}
+use Rattle.sand_certify.proofs.InnerPlaces.{some_four}
 use Rattle.sand_settle.proofs.spreading.spread.Goals as goal
 
 pub deliver_four-requires-clause-inside : goal.deliver_four-requires-clause-inside

@@ -1,5 +1,7 @@
--- The grains that a site gives to its neighbours.
-use Rattle.sand_settle.proofs.Common.{ℕ, Some, map, ◌≡◌, refl, sym, ◌∙◌, ap, arith, List, [], ◌∷◌, length, get_or, length-map, Grid, places}
+-- The places around an inner site, all of which are sites.
+use Rattle.std.proofs.Common.{ℕ, Some, map, ◌≡◌, refl, sym, ◌∙◌, ap, arith, List, [], ◌∷◌, length, get_or}
+use Rattle.std.proofs.lemmas.List.{length-map}
+use Rattle.sand_model.specs.Grid.{Grid, places}
 
 four_of : (xs : List ℕ) → length xs ≡ 4
     → (Some (get_or xs 0 0) ∷ Some (get_or xs 1 0) ∷ Some (get_or xs 2 0) ∷ Some (get_or xs 3 0) ∷ []) ≡ map Some xs
