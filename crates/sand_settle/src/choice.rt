@@ -1,13 +1,13 @@
 //! How a pile is settled: by the queue, or by a claim that is certified.
 //!
 //! The queue is the plain way, always right, and fast if little topples. A light pile, of which a bound shows that not
-//! much topples (`is_light`), goes to the queue at once, and stays there. The odometer of a small and dense pile is claimed
-//! by sweeps (`sand_guess::swept`). On other piles the queue comes first, for a few turns per site, unless the pile is
-//! found to be high (`sand_guess::is_high`). If the queue has not settled the pile, its odometer is claimed: by toppling
-//! on tiles if the pile is low and flat (`sand_guess::toppled`), and then by a guess (`sand_guess::guessed`). A claim is
-//! certified (`sand_certify`), which is a proof. If every claim is rejected, the queue settles the pile from the start,
-//! however long that takes. Nothing is proved of what `sand_guess` returns: a wrong claim costs time, and the result is
-//! the same.
+//! much topples (`is_light`), goes to the queue at once, and stays there. The odometer of a small and dense pile is
+//! claimed by sweeps (`sand_guess::swept`). On other piles the queue comes first, for a few turns per site, unless the
+//! pile is found to be high (`sand_guess::is_high`), or is flat and flooded (`is_flooded`). If the queue has not
+//! settled the pile, its odometer is claimed: by toppling on tiles if the pile is low and flat (`sand_guess::toppled`),
+//! and then by a guess (`sand_guess::guessed`). A claim is certified (`sand_certify`), which is a proof. If every claim
+//! is rejected, the queue settles the pile from the start, however long that takes. Nothing is proved of what
+//! `sand_guess` returns: a wrong claim costs time, and the result is the same.
 
 ghost use Rattle.std.specs.Prelude.{◌≤◌, ◌^◌, IfOk, IfSome, IsSome};
 ghost use Rattle.sand_model.specs.Grid.{IsGrid};
@@ -16,7 +16,7 @@ ghost use Rattle.sand_settle.specs.Rests.{ComesToRest};
 use crate::queue::topple_to_rest;
 use sand_certify::certified;
 use sand_guess::{Claim, guessed, is_flat, is_high, is_small, swept, toppled};
-use sand_model::{Edge, Pile, Shape};
+use sand_model::{Edge, Pile, Shape, TOPPLING_HEIGHT};
 use std::alloc::{AllocError, Global};
 
 // The turns that the queue has before a guess is tried: a number per site, and more in addition. They take about as long
@@ -30,6 +30,9 @@ const TURNS_BEFORE_TILES: u64 = 1;
 
 // The same if a pile is no denser than settled piles are: about as many sites topple as there are.
 const TURNS_IF_SPARSE: u64 = 3;
+
+// The least number of grains per 16 sites of a flooded pile.
+const FULL: u64 = 47;
 
 // The bound on the topplings of a light pile: a part per site, and a constant.
 const FEW_PER_SITE: u64 = 64;
@@ -96,6 +99,22 @@ pub(crate) fn settle_by_claim(
     }))
 }
 
+// Whether a pile is flooded: hardly a site has room for a grain, and one away from the edge is unstable. Then nearly
+// all topple twice or more.
+fn is_flooded(pile: &Pile) -> bool {
+    let shape = pile.shape();
+    if pile.grains() * 16 >= shape.sites() as u64 * FULL {
+        for site in 0..shape.sites() {
+            if pile.height(site) >= TOPPLING_HEIGHT {
+                if let [Some(_), Some(_), Some(_), Some(_)] = shape.neighbours(site) {
+                    return true;
+                }
+            }
+        }
+    }
+    false
+}
+
 // Settles a pile that is not high: by sweeps if it is small, otherwise by the queue in a few turns, or on tiles.
 fn settle_if_low(alloc: Global, pile: &Pile) -> Result<Option<Rest>, AllocError>
     ensures { IfOk result (λ o. IfSome o (ComesToRest pile.now)) }
@@ -112,9 +131,11 @@ fn settle_if_low(alloc: Global, pile: &Pile) -> Result<Option<Rest>, AllocError>
     } else {
         sites * TURNS_BEFORE_A_GUESS + MORE_TURNS_BEFORE_A_GUESS
     };
-    let rest = settle_by_queue(alloc, pile, budget)?;
-    if rest.is_some() || !is_flat {
-        return Ok(rest);
+    if !is_flat || !is_flooded(pile) {
+        let rest = settle_by_queue(alloc, pile, budget)?;
+        if rest.is_some() || !is_flat {
+            return Ok(rest);
+        }
     }
     settle_by_claim(alloc, pile, toppled(alloc, pile)?)
 }
