@@ -28,6 +28,7 @@ fn value(values: &[u64], neighbour: Option<usize>) -> u64
     }
 }
 
+// The grains that reach a site from these neighbours.
 #[inline(always)]
 fn inflow_from(around: [Option<usize>; 4], counts: &[u64]) -> u64
     requires inside { (k : ℕ) → IfSome (slice_index_or around k None) (λ j. j < length counts.now) }
@@ -73,6 +74,7 @@ fn is_no_earlier(turns: &[u32], turn: u32, neighbour: Option<usize>) -> u64
     }
 }
 
+// How many of these neighbours have this turn or a later one.
 #[inline(always)]
 fn unburnt_among(around: [Option<usize>; 4], turns: &[u32], turn: u32) -> u64
     requires { (k : ℕ) → IfSome (slice_index_or around k None) (λ j. j < length turns.now) }

@@ -22,7 +22,7 @@ pub record IsListed (list : List ℕ) (from end m : ℕ) : Type 0 where
   pub high : index < end
   pub is : slice_index list index ≡ m
 
--- each tile with a site that has toppled in this wave is there
+-- each tile with a site that has toppled in this wave is in a list, from one position to before another
 abbrev pub AreListed : List ℕ → ℕ → ℕ → (ℕ → Tile) → Type 0
 AreListed list from end τ = (m : ℕ) → IsClear (τ m) ⊎ IsListed list from end m
 

@@ -261,15 +261,12 @@ impl Tiles {
         numbers_of(alloc, &unburnt)
     }
 
-    /// By site, the turn at which it burns, from 1 on, or 0 if nothing toppled there. All that toppled burns.
-    pub(crate) fn turns(
-        &mut self,
-        alloc: Global,
-        counts: &mut [i64],
-    ) -> Result<Vec<i64>, AllocError> {
-        self.turns = vec![in alloc; 0i64; counts.len()]?;
+    /// Writes by site the turn at which it burns, from 1 on, or 0 if nothing toppled there. All that toppled burns.
+    pub(crate) fn turns(&mut self, counts: &mut [i64], list: &mut Vec<i64>) {
+        list.fill(0);
+        mem::swap(&mut self.turns, list);
         self.mark(counts, 0);
         self.burn(counts, 0);
-        Ok(mem::replace(&mut self.turns, Vec::new(alloc)))
+        mem::swap(&mut self.turns, list);
     }
 }

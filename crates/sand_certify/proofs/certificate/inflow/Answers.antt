@@ -1,4 +1,4 @@
--- An inner site and its neighbours are found without a division (`some_four`).
+-- The four neighbours of an inner site are its places (`some_four`).
 use Rattle.sand_model.proofs.Neighbours.{place_inside}
 use Rattle.sand_certify.proofs.InnerPlaces.{some_four}
 use Rattle.sand_certify.proofs.certificate.inflow.Goals as goal
