@@ -25,7 +25,7 @@ int main(void) {
     for (int i = 0; i < DROPS; i++) {
         printf("drop %d: size %" PRIu64 ", area %" PRIu32 "\n", i + 1, avalanches[i].size, avalanches[i].area);
     }
-    printf("257 wide: %s\n", sandpile_explain(sandpile_identity(257, SIDE, false, heights, SITES)));
+    printf("8193 wide: %s\n", sandpile_explain(sandpile_identity(8193, SIDE, false, heights, SITES)));
     free(heights);
     free(odometer);
     return 0;

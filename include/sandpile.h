@@ -1,9 +1,9 @@
 /* libsandpile: abelian sandpiles on grids with open edges and on cylinders, for C99 and C++.
 
-   A grid has `width` columns and `height` rows, each from 1 to 256. On a cylinder the first and the last column are
+   A grid has `width` columns and `height` rows, each from 1 to 8192. On a cylinder the first and the last column are
    neighbours, and the width is at least 3. Site `row * width + column` has the height `heights[row * width + column]`.
-   An array is passed as a pointer and its number of elements. A pile has one element per site, and at most
-   1,099,511,627,775 grains.
+   An array is passed as a pointer and its number of elements. A pile has one element per site, and at most as many grains,
+   drops included, as `sandpile_grain_limit` says: 1,099,511,627,775 on up to 361 rows, fewer on more.
 
    Functions that list faults return 0 or the number of a fault; after a fault, no array or number passed in has
    changed. Faults are listed in the order in which they are checked.
@@ -17,7 +17,11 @@
 
    A call needs at most 24 KiB of stack. Do not call from a signal handler, or in a forked child if its parent had several
    threads. Memory comes from `malloc`, `realloc` and `free`. In a program that replaces them, all three must belong to one
-   allocator, and the address of a block must be a multiple of each power of two up to 16 that divides the block's size. */
+   allocator, and the address of a block must be a multiple of each power of two up to 16 that divides the block's size.
+
+   While it runs, a call takes about 20 bytes for each site to burn a pile, to draw a random one or to make that of a tree; 30 to find
+   the tree of a pile; 80 to settle, 100 for the other calls of the group, 140 for integer heights; and where a pile settles, 12
+   times the square of the width as well. What handles keep is said below. */
 #ifndef SANDPILE_H
 #define SANDPILE_H
 
@@ -57,11 +61,11 @@ enum {
 static inline const char *sandpile_explain(uint32_t fault) {
     switch (fault) {
     case 0: return "no fault";
-    case SANDPILE_SIDE: return "the width or the height of a grid is outside 1 to 256";
+    case SANDPILE_SIDE: return "the width or the height of a grid is outside 1 to 8192";
     case SANDPILE_LENGTH: return "an array has the wrong length";
-    case SANDPILE_TOO_MANY_GRAINS: return "the pile has more than 1,099,511,627,775 grains";
+    case SANDPILE_TOO_MANY_GRAINS: return "the pile has more grains than the limit of its grid";
     case SANDPILE_MEMORY: return "an allocation failed";
-    case SANDPILE_FULL: return "the pile and its drops exceed 1,099,511,627,775 grains together";
+    case SANDPILE_FULL: return "the pile and its drops exceed the grain limit of the grid together";
     case SANDPILE_UNSTABLE: return "a site has more than 3 grains";
     case SANDPILE_NOT_RECURRENT: return "a pile is not recurrent: some of its sites form a forbidden set";
     case SANDPILE_TOO_MUCH: return "the quota exceeds what the pass has left";
@@ -82,6 +86,10 @@ static inline const char *sandpile_explain(uint32_t fault) {
 /* The version of the linked library, in the format of SANDPILE_VERSION. */
 uint32_t sandpile_version(void);
 
+/* Writes the grain limit of a grid: 1,099,511,627,775, or (2^57 - 1) / (height + 1)^2, rounded down, if that is less. A settled pile
+   has then toppled less than 2^54 times. SIDE, NARROW. */
+uint32_t sandpile_grain_limit(size_t width, size_t height, bool cylinder, uint64_t *limit);
+
 /* What one drop caused. */
 typedef struct sandpile_avalanche {
     size_t site;    /* where the grain was dropped */
@@ -93,8 +101,7 @@ typedef struct sandpile_avalanche {
 } sandpile_avalanche;
 
 /* Settles a pile. Writes the settled heights, how often each site toppled, the grains lost and the number of topplings.
-   `heights_length` and `odometer_length` are width times height. The call needs about 80 bytes for each site, more on
-   narrow grids, and none if the pile is stable.
+   `heights_length` and `odometer_length` are width times height. A stable pile takes no memory.
    SIDE, NARROW, LENGTH, TOO_MANY_GRAINS, MEMORY. */
 uint32_t sandpile_settle(size_t width, size_t height, bool cylinder, uint64_t *heights, size_t heights_length,
                          uint64_t *odometer, size_t odometer_length, uint64_t *lost, uint64_t *topplings);
@@ -110,8 +117,9 @@ uint32_t sandpile_settle_all(size_t width, size_t height, bool cylinder, uint64_
                              uint64_t *topplings, size_t topplings_length);
 
 /* Writes `sites_length` sites of a stream of random drops, without the first `from` sites of the stream. A stream consists of
-   the 32-bit words of ChaCha8, each modulo the number of sites. The key is the seed's 8 bytes, the lowest first, and then 24
-   zeros; the 64-bit nonce is `stream`, and the 64-bit block counter begins with 0. SIDE, NARROW. */
+   the 32-bit words of ChaCha8, each modulo the number of sites; on more than 65,536 sites it consists of pairs of words, each
+   pair read as a number of 64 bits, the low half first, modulo the number of sites. The key is the seed's 8 bytes, the lowest
+   first, and then 24 zeros; the 64-bit nonce is `stream`, and the 64-bit block counter begins with 0. SIDE, NARROW. */
 uint32_t sandpile_sites(size_t width, size_t height, bool cylinder, uint64_t seed, uint64_t stream, uint64_t from, size_t *sites,
                         size_t sites_length);
 
@@ -143,8 +151,8 @@ uint32_t sandpile_inverse(size_t width, size_t height, bool cylinder, uint64_t *
    height. SIDE, NARROW, LENGTH, TOO_MANY_GRAINS; then UNSTABLE, NOT_RECURRENT or MEMORY. */
 uint32_t sandpile_multiple(size_t width, size_t height, bool cylinder, uint64_t *heights, size_t heights_length, uint64_t n);
 
-/* The two calls below take integer heights, which may be negative; the absolute values sum to at most 1,099,511,627,775. Heights
-   are equivalent if topplings, legal or not, and topplings taken back lead from one to the other. */
+/* The two calls below take integer heights, which may be negative; the absolute values sum to at most the grain limit. Heights are
+   equivalent if topplings, legal or not, and topplings taken back lead from one to the other. */
 
 /* Replaces integer heights with the one recurrent pile equivalent to them. `firing` becomes the firing vector: how often each
    site topples on the way, less than 0 where topplings are taken back. Only one vector leads there, and for a recurrent pile it
@@ -203,8 +211,8 @@ uint32_t sandpile_random(size_t width, size_t height, bool cylinder, uint64_t se
 
    A fork copies what handles hold, like all memory. Parent and child go on independently: neither sees the other's drops. */
 
-/* A driven pile: settled, and settled again after each drop. It takes about 42 bytes for each site, the sides rounded up
-   to multiples of 8. Three calls settle a pile, drop grains on it and write the result: `sandpile_drive_new`,
+/* A driven pile: settled, and settled again after each drop. It takes about 42 bytes for each site, and up to 110 on
+   grids of a few hundred sites. Three calls settle a pile, drop grains on it and write the result: `sandpile_drive_new`,
    `sandpile_drive_drop` and `sandpile_drive_read`. */
 typedef struct sandpile_drive {
     void *at;
@@ -216,9 +224,9 @@ uint32_t sandpile_drive_new(size_t width, size_t height, bool cylinder, const ui
                             sandpile_drive *drive);
 
 /* Drops a grain at each site of `drops` in turn; each settles before the next. Writes an avalanche for each drop;
-   `avalanches_length` is `drops_length`. The call needs 32 bytes for each drop. Several calls do the same as one call
-   with all their drops. The grains of the start and of all drops since may not exceed the limit (FULL), even if some are
-   lost. EMPTY, LENGTH, NO_SITE, FULL, MEMORY. */
+   `avalanches_length` is `drops_length`. The call needs no memory. Several calls do the same as one call with all their
+   drops. The grains of the start and of all drops since may not exceed the limit (FULL), even if some are lost. EMPTY,
+   LENGTH, NO_SITE, FULL. */
 uint32_t sandpile_drive_drop(sandpile_drive *drive, const size_t *drops, size_t drops_length, sandpile_avalanche *avalanches,
                              size_t avalanches_length);
 
@@ -308,8 +316,8 @@ uint32_t sandpile_pass_join(sandpile_pass *pass, sandpile_pass *other);
    such as the first pass after all others have joined it. Writes the settled heights, how often each site toppled, the site
    of each drop by number, the number of topplings and the grains lost: what one thread gets that drops this history.
    `heights_length` and `odometer_length` are width times height; `history_length` is the number of drops made with the pass
-   (`drops` of its holding). The pile and the pass do not change, and may go on. The call needs about 96 bytes for each site,
-   more on narrow grids, and 8 for each drop. EMPTY, LENGTH, MISSING, MEMORY. */
+   (`drops` of its holding). The pile and the pass do not change, and may go on. The call needs 16 bytes more for each site than
+   settling, and 8 for each drop. EMPTY, LENGTH, MISSING, MEMORY. */
 uint32_t sandpile_pass_settle(sandpile_pass *pass, uint64_t *heights, size_t heights_length, uint64_t *odometer,
                               size_t odometer_length, size_t *history, size_t history_length, uint64_t *topplings,
                               uint64_t *lost);

@@ -12,3 +12,4 @@ PROGRAMS = (PROGRAM, PROGRAM.with_name("sandpile.by-rattle"))
 LIBRARY = TOP / "crates" / "sand_c" / "out" / "libsandpile.so.1"
 ARCHIVE = LIBRARY.with_name("libsandpile.a")
 WITH_NUMPY = TOP / "python" / "with-numpy"
+OF_MODULE = (".py", ".typed", ".html", ".css", ".js")  # the files of the Python module end so

@@ -29,7 +29,10 @@ LINE = re.compile(r"([0-9a-f]{64})  (.+)")
 PROVED_BY = "# proved by "
 WHERE = {PROGRAM: re.compile(r".*\.data/scripts/sandpile"), LIBRARY: re.compile(rf"sandpile/{re.escape(paths.LIBRARY.name)}")}
 # What a wheel is packed from, apart from the program and the library.
-MODULE = ("python/sandpile/*.py", "python/sandpile/py.typed", "python/README.md", "python/for-pip/METADATA.in")
+MODULE = (
+    *(f"python/sandpile/{name}" for name in ("*.py", "py.typed", "page/*.html", "page/*.css", "page/*.js")), "python/README.md",
+    "python/for-pip/METADATA.in",
+)
 PACKED = (*MODULE, "tools/wheel", "tools/man-page")
 
 

@@ -2,6 +2,7 @@
 
 from __future__ import annotations
 
+import math
 import operator
 from collections.abc import Mapping, Sequence
 from typing import TYPE_CHECKING, Any, SupportsIndex
@@ -9,14 +10,17 @@ from typing import TYPE_CHECKING, Any, SupportsIndex
 import numpy as np
 from numpy.typing import ArrayLike, NDArray
 
+from . import _memory
+from ._library import most_in_words
+from ._limits import check_sides
 from ._png import Pictured
 from .faults import Fault, ShapeError
 
 # The library reads and writes the same 8 bytes without a sign. All that it returns is below 2**54.
 Heights = NDArray[np.int64]
 
-_MOST_SIDE = 256
-_TOO_MANY_GRAINS, _MEMORY, _SHAPES, _NOT_TREE = 3, 4, 9, 28
+_TOO_MANY_GRAINS, _SHAPES, _NOT_TREE = 3, 9, 28
+_COPY = "a copy of the heights"
 # NumPy before 1.24 makes an array of lists of them, with a warning.
 _ALLOWS_RAGGED = tuple(map(int, np.__version__.split(".")[:2])) < (1, 24)
 
@@ -98,10 +102,8 @@ def heights_and_edge(
     edges = {one.cylinder for one in piles if isinstance(one, HasPile)}
     if edges and is_list:  # NumPy before 2 warns of objects in a list
         pile = [one.pile if isinstance(one, HasPile) else one for one in piles]
-    try:
+    with _memory.room_for(_COPY):
         return heights_of(pile, may_be_stack, may_be_negative), edge_of(edges, cylinder)
-    except MemoryError:
-        raise Fault(_MEMORY, "not enough memory for a copy of the heights") from None
 
 
 def _listed(values: Any) -> Any:
@@ -150,15 +152,17 @@ def heights_of(pile: ArrayLike, may_be_stack: bool = False, may_be_negative: boo
     # No integer type has all heights of a list of Python's integers.
     if array.dtype.kind == "O" or may_be_negative and array.dtype.kind == "u":
         _check_bits(array)
+    _memory.check(array.size * np.dtype(np.int64).itemsize, _COPY)
     return np.array(array, dtype=np.int64, order="C")
 
 
 def _check_bits(array: NDArray[Any]) -> None:
     """Raises a fault for heights that int64 does not have."""
+    most = most_in_words(*array.shape[-2:])
     if array.max() >= 2**63:
-        raise Fault(_TOO_MANY_GRAINS, f"the height in {_first(array, array >= 2**63)}, over 1,099,511,627,775")
+        raise Fault(_TOO_MANY_GRAINS, f"the height in {_first(array, array >= 2**63)}, over {most}")
     if array.dtype.kind == "O" and array.min() < -(2**63):
-        raise Fault(_TOO_MANY_GRAINS, f"the height in {_first(array, array < -(2**63))}, below -1,099,511,627,775")
+        raise Fault(_TOO_MANY_GRAINS, f"the height in {_first(array, array < -(2**63))}, below -{most}")
 
 
 def _first(array: NDArray[Any], which: NDArray[np.bool_]) -> str:
@@ -166,12 +170,6 @@ def _first(array: NDArray[Any], which: NDArray[np.bool_]) -> str:
     *pile, row, column = at = tuple(np.argwhere(which)[0])
     place = "".join(f"pile {number}, " for number in pile)
     return f"{place}row {row}, column {column} is {array[at]}"
-
-
-def check_sides(shape: tuple[int, ...]) -> None:
-    """Raises a fault for a side outside 1 to 256, before an array of such a shape is made."""
-    if min(shape) < 1 or max(shape) > _MOST_SIDE:
-        raise Fault(1)
 
 
 def shape_of(shape: Sequence[SupportsIndex]) -> tuple[int, int]:
@@ -214,10 +212,8 @@ def sites_at(
     sites: ArrayLike | None, rows: ArrayLike | None, columns: ArrayLike | None, shape: tuple[int, ...]
 ) -> NDArray[np.int64]:
     """The numbers of sites, given as such or by their rows and columns, as `sites_of` returns them."""
-    try:
+    with _memory.room_for("a copy of the sites"):
         return _sites_at(sites, rows, columns, shape)
-    except MemoryError:
-        raise Fault(_MEMORY, "not enough memory for a copy of the sites") from None
 
 
 def _sites_at(
@@ -295,7 +291,9 @@ def seed_of(seed: SupportsIndex | np.random.SeedSequence | None, bits: int = 64,
 
 def new_array(shape: int | tuple[int, ...], kind: Any, what: str) -> NDArray[Any]:
     """An array that is not yet filled, of a size that the caller has chosen."""
+    size = math.prod(shape if isinstance(shape, tuple) else (shape,)) * np.dtype(kind).itemsize
+    _memory.check(size, what)
     try:
         return np.empty(shape, kind)
     except (MemoryError, ValueError):  # more bytes than there are, or than NumPy can count
-        raise Fault(_MEMORY, f"not enough memory for {what}") from None
+        raise _memory.lack(what, size) from None

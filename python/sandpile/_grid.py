@@ -2,16 +2,22 @@
 
 from __future__ import annotations
 
+from typing import Any
+
 import numpy as np
 from numpy.typing import NDArray
 
+#: North, west, east and south, as in the trees of the library: so many rows and columns away.
+DIRECTIONS = range(4)
+ROWS, COLUMNS = np.array([-1, 0, 0, 1]), np.array([0, -1, 1, 0])
 
-def neighbours(shape: tuple[int, ...], cylinder: bool) -> NDArray[np.int64]:
-    """The neighbours of each site in the north, west, east and south; shape (4, sites). Beyond the edge is the number after
-    that of the last site, which is the sink."""
-    sites = np.arange(shape[0] * shape[1], dtype=np.int64).reshape(shape)
-    framed = np.pad(sites, 1, constant_values=sites.size)
+
+def beside(sites: NDArray[np.int64], direction: Any, shape: tuple[int, ...], cylinder: bool) -> NDArray[np.int64]:
+    """The neighbour of each of some sites in a direction, the same for all or one for each. Beyond the edge it is the number
+    after that of the last site, which is the sink."""
+    height, width = shape
+    rows, columns = sites // width + ROWS[direction], sites % width + COLUMNS[direction]
     if cylinder:
-        framed[1:-1, 0], framed[1:-1, -1] = sites[:, -1], sites[:, 0]
-    sides = framed[:-2, 1:-1], framed[1:-1, :-2], framed[1:-1, 2:], framed[2:, 1:-1]
-    return np.array([side.ravel() for side in sides])
+        columns %= width
+    is_inside = (rows >= 0) & (rows < height) & (columns >= 0) & (columns < width)
+    return np.where(is_inside, rows * width + columns, height * width)

@@ -9,7 +9,7 @@ import weakref
 
 from . import _library
 from ._arrays import Heights
-from ._library import call, call_at, call_on
+from ._library import call, call_at, call_on, check_memory
 
 
 class Handle:
@@ -54,6 +54,8 @@ class DriveHandle(Handle):
     def __init__(self, heights: Heights, cylinder: bool) -> None:
         self._renew()
         super().__init__("drive")
+        if heights.max() > 3:  # the start is settled first
+            check_memory("settle", *heights.shape)
         call("drive_new", heights.shape, cylinder, heights, self.at)
         with _fork:  # a fork reads them all
             _drives.add(self)

@@ -3,13 +3,14 @@
 from __future__ import annotations
 
 import ctypes
+import functools
 import os
 from pathlib import Path
 from typing import Any
 
 import numpy as np
 
-from . import _processor
+from . import _memory, _processor
 from .faults import Fault
 
 _NAME = "libsandpile.so.1"
@@ -57,8 +58,16 @@ _TAKES: dict[str, tuple[Any, ...]] = {
     "pass_join": (*_HANDLE, *_HANDLE),
     "pass_settle": (*_HANDLE, *_ARRAY, *_ARRAY, *_ARRAY, *_PLACE, *_PLACE),
     "pass_free": _HANDLE,
+    "grain_limit": (*_SIDES, *_PLACE),
     "version": (),
 }
+# What a call needs for each site, in bytes, by the growth of the process on 1,024 by 1,024 sites: the most that piles needed, with
+# the arrays that the call fills.
+_BYTES_A_SITE = {
+    "settle": 74, "burn": 30, "burn_times": 30, "tree": 32, "of_tree": 24, "random": 20, "identity": 64, "recurrent": 104,
+    "add": 90, "inverse": 90, "multiple": 104, "class": 144, "superstable": 144, "drive_new": 42, "shared_new": 44,
+}
+_TOO_MANY_GRAINS = 3
 
 
 def _places() -> list[str]:
@@ -110,9 +119,34 @@ library = _load()
 
 
 def call(name: str, shape: tuple[int, ...], cylinder: bool, *arguments: Any) -> None:
-    """Calls an export on a grid of this shape, as `call_on` does."""
+    """Calls an export on a grid of this shape, as `call_on` does. A fault of too many grains names the limit of the grid."""
     height, width = shape
-    call_on(name, width, height, cylinder, *arguments)
+    check_memory(name, height, width)
+    try:
+        call_on(name, width, height, cylinder, *arguments)
+    except Fault as fault:
+        if fault.number != _TOO_MANY_GRAINS:
+            raise
+        raise Fault(_TOO_MANY_GRAINS, f"the pile has more than {most_in_words(height, width)}") from None
+
+
+@functools.lru_cache
+def most_grains(height: int, width: int) -> int:
+    """The grain limit of a grid, with either edge."""
+    most = ctypes.c_uint64()
+    call_on("grain_limit", width, height, False, ctypes.byref(most))
+    return most.value
+
+
+def most_in_words(height: int, width: int) -> str:
+    """The grain limit of a grid, as faults name it, with what makes it lower than that of others."""
+    most = most_grains(height, width)
+    return f"{most:,} grains" if most == most_grains(1, 1) else f"{most:,} grains, the limit on {height:,} rows"
+
+
+def check_memory(name: str, height: int, width: int) -> None:
+    """Refuses a call of an export for which the memory is not there."""
+    _memory.check(_BYTES_A_SITE.get(name, 0) * height * width, f"a grid of {height:,} by {width:,}")
 
 
 def call_on(name: str, *arguments: Any) -> None:

@@ -15,17 +15,20 @@ import numpy as np
 from numpy.lib import format as _format
 from numpy.typing import NDArray
 
+from . import _memory
 from ._arrays import Heights, count_of, heights_of
+from ._limits import MOST_SIDE
 from .faults import Fault
 from .settling import settle
 
-# A save is shorter, and so is each array in it.
-_MOST_BYTES = 1 << 21
+# A save is shorter than its arrays, and each array in it than this.
+_MOST_BYTES = 8 * MOST_SIDE**2 + (1 << 16)
 _MEMORY = 4
 _UNSIGNED = ("seed", "stream")
 # NumPy gives them no types.
 _read_magic: Any = _format.read_magic
 _read_header: Any = _format.read_array_header_1_0
+_write_array: Any = _format.write_array
 
 
 @dataclass(frozen=True)
@@ -46,10 +49,17 @@ class Saved:
         """The grains that each site was given, at the start and by drops: what it has and what it passed on, less what it
         took from its neighbours. Settled, they are the pile, the odometer and the lost grains of the run, whatever the
         order of the drops. With the odometer of no run, this may wrap around; settling then shows it."""
-        rows = np.pad(self.odometer, ((1, 1), (0, 0)))
-        toppled = np.pad(rows, ((0, 0), (1, 1)), "wrap" if self.cylinder else "constant")
-        taken: Heights = toppled[:-2, 1:-1] + toppled[2:, 1:-1] + toppled[1:-1, :-2] + toppled[1:-1, 2:]
-        return self.pile + (self.odometer << 2) - taken
+        with _memory.room_for("the grains of a run"):
+            given: Heights = self.odometer << 2
+            given += self.pile
+        given[1:] -= self.odometer[:-1]
+        given[:-1] -= self.odometer[1:]
+        given[:, 1:] -= self.odometer[:, :-1]
+        given[:, :-1] -= self.odometer[:, 1:]
+        if self.cylinder:
+            given[:, 0] -= self.odometer[:, -1]
+            given[:, -1] -= self.odometer[:, 0]
+        return given
 
 
 class Rows(NamedTuple):
@@ -64,9 +74,12 @@ def write(path: str | os.PathLike[str], saved: Saved, rows: Optional[Rows] = Non
     name is always the same, so one that a killed process has left is overwritten."""
     path, content = npz(path), io.BytesIO()
     values = {**vars(saved), **(rows._asdict() if rows else {})}
-    arrays: dict[str, Any] = {name: np.asarray(value, _type_of(name)) for name, value in values.items()}
-    # Not into the file: if writing to it failed, zipfile would go on, and fail in its `__del__`, too.
-    np.savez_compressed(content, **arrays)
+    # Not into the file: if writing to it failed, zipfile would go on, and fail in its `__del__`, too. NumPy's own packing takes
+    # several times as long, for little.
+    with _memory.room_for("a save"), zipfile.ZipFile(content, "w", zipfile.ZIP_DEFLATED, compresslevel=1) as archive:
+        for name, value in values.items():
+            with archive.open(f"{name}.npy", "w", force_zip64=True) as member:
+                _write_array(member, np.asarray(value, _type_of(name)))
     unique = "" if rows else f".{os.urandom(8).hex()}"
     beside = path.with_name(f"{path.name}{unique}.part")
     try:
@@ -100,7 +113,7 @@ def _type_of(name: str) -> Any:
 def read(path: str | os.PathLike[str]) -> tuple[Saved, Optional[Rows]]:
     """Reads a file, and raises a ValueError unless it holds a possible run. Only the save of a recording has `Rows`."""
     with open(npz(path), "rb") as file:
-        content = file.read(_MOST_BYTES)
+        content = file.read(2 * _MOST_BYTES)
     try:
         arrays = _arrays_of(content)
         rows = {name: _number(arrays.pop(name), name) for name in Rows._fields if name in arrays}
@@ -116,7 +129,12 @@ def _arrays_of(content: bytes) -> dict[str, NDArray[Any]]:
     with zipfile.ZipFile(io.BytesIO(content)) as archive:
         also = {f"{name}.npy" for name in Rows._fields} & {*archive.namelist()}
         names = [*(field.name for field in fields(Saved)), *(name[:-4] for name in also)]
-        return {name: _array_of(archive.open(f"{name}.npy").read(_MOST_BYTES)) for name in names}
+        return {name: _array_of(_member(archive, f"{name}.npy")) for name in names}
+
+
+def _member(archive: zipfile.ZipFile, name: str) -> bytes:
+    _memory.check(min(archive.getinfo(name).file_size, _MOST_BYTES), "a save")
+    return archive.open(name).read(_MOST_BYTES)
 
 
 def _array_of(member: bytes) -> NDArray[Any]:

@@ -15,6 +15,7 @@ from numpy.typing import ArrayLike, NDArray
 
 from ._arrays import Heights, heights_and_edge, new_array
 from ._library import call
+from ._memory import room_for
 from ._png import Pictured, ma
 from ._results import Result
 from ._stacks import enumerate_piles, naming
@@ -49,7 +50,7 @@ class Burned(Result, Pictured):
     def time(self) -> NDArray[np.int64]:
         if self._heights.ndim == 2:
             return _times(self._heights, self._cylinder)
-        times = np.empty_like(self._heights)
+        times = new_array(self._heights.shape, np.int64, f"the burning times of {len(self._heights)} piles")
         for number in range(len(times)):
             times[number] = _times(self._heights[number], self._cylinder)
         return times
@@ -110,7 +111,7 @@ def burn(pile: ArrayLike, cylinder: bool | None = None) -> Burned:
 
 def burned(heights: Heights, cylinder: bool) -> Burned:
     """What `burn` returns, for heights that are checked."""
-    found = np.empty(heights.size, np.int64)
+    found = new_array(heights.size, np.int64, "a burning order")
     count, recurrent = ctypes.c_size_t(), ctypes.c_bool()
     call("burn", heights.shape, cylinder, heights, found, ctypes.byref(count), ctypes.byref(recurrent))
     sites = found[: count.value]
@@ -124,7 +125,7 @@ def burned(heights: Heights, cylinder: bool) -> Burned:
 def burned_stack(stack: Heights, cylinder: bool) -> Burned:
     """What `burn` returns, for a stack that is checked."""
     count, height, width = stack.shape
-    is_recurrent, forbidden = np.zeros(count, bool), np.zeros(stack.shape, bool)
+    is_recurrent, forbidden = np.zeros(count, bool), new_array(stack.shape, np.bool_, f"the forbidden sets of {count} piles")
     order = new_array((count, height * width), np.int64, f"the orders of {count} piles")
     order.fill(-1)
     for number, heights in enumerate_piles(stack, cylinder):
@@ -137,6 +138,9 @@ def burned_stack(stack: Heights, cylinder: bool) -> Burned:
 
 def _times(heights: Heights, cylinder: bool) -> NDArray[np.int64]:
     """In which step each site burns, from 1 on, or -1."""
-    times = np.empty(heights.shape, np.uint32)
+    times = new_array(heights.shape, np.uint32, "the burning times")
     call("burn_times", heights.shape, cylinder, heights, times)
-    return np.where(times, times.astype(np.int64), -1)
+    with room_for("the burning times"):
+        found = times.astype(np.int64)
+    found[found == 0] = -1
+    return found

@@ -8,6 +8,7 @@ from __future__ import annotations
 
 import ctypes
 import os
+import time
 from contextlib import nullcontext
 from pathlib import Path
 from typing import Any, Callable, ContextManager, Iterator, Literal, NamedTuple, Optional, SupportsIndex, Tuple, overload
@@ -18,16 +19,15 @@ from numpy.typing import ArrayLike, NDArray
 from . import _saves, recording, waves as _waves
 from ._arrays import HasPile, Heights, count_of, heights_and_edge, new_array, seed_of, site_at, sites_at
 from ._handles import DriveHandle
-from ._library import call, call_at
+from ._library import call, call_at, most_grains, most_in_words
 from .faults import Fault
 from .progress import Bar
 from .waves import WaveList, most_waves
 
-_MOST_GRAINS = 1_099_511_627_775
-# Limits of a block of drops, which Ctrl-C cannot interrupt: the number of drops, and drops times sites. The time of a
-# drop is at most proportional to the number of sites. A block takes a few tenths of a second on the largest grid, and less
-# on others.
-_MOST_IN_BLOCK, _WORK_IN_BLOCK = 8192, 1 << 27
+# A block of drops, which Ctrl-C cannot interrupt, has at most so many drops, and should take so many seconds.
+_MOST_IN_BLOCK, _SECONDS_IN_BLOCK = 8192, 0.05
+# A toppling takes a few nanoseconds.
+_SECONDS_A_TOPPLING = 4e-9
 # A block of drops may have at most so many waves, if they are wanted, so that the room for them stays in the cache.
 _WAVES_IN_BLOCK = 1 << 16
 # If fewer are wanted, so many random sites are drawn, and so much room for avalanches is kept from one call to the next.
@@ -49,7 +49,7 @@ _NO_SITES = np.empty(0, np.int64)
 _NO_BAR: ContextManager[Optional[Bar]] = nullcontext()
 
 # What a copy of a run does not take over.
-_OF_THIS_PROCESS = {"_handle", "_before", "_asked", "_ahead", "_few", "_found", "_go_on"}
+_OF_THIS_PROCESS = {"_handle", "_before", "_asked", "_ahead", "_few", "_found", "_go_on", "_pace"}
 
 # How many drops are wanted, and the address of the sites of those from one up to another.
 _Sites = Tuple[int, Callable[[int, int], int]]
@@ -65,6 +65,20 @@ class _State(NamedTuple):
     drops: int  # so far
     drawn: int  # of these, drops at sites of the stream
     table: NDArray[np.void]  # of the last call
+
+
+class _Pace:
+    """How many drops the next block has, by the time that the last one took. The first has as many as take the time of a block if
+    no avalanche on the grid is larger than each of theirs. Nobody knows how large the next one is, so blocks grow slowly."""
+
+    def __init__(self, shape: tuple[int, ...], cylinder: bool) -> None:
+        most_topplings = shape[0] * shape[1] * most_waves(shape, cylinder)
+        self.drops = max(1, int(_SECONDS_IN_BLOCK / (most_topplings * _SECONDS_A_TOPPLING)))
+
+    def note(self, drops: int, seconds: float) -> None:
+        """Takes in that a block with so many drops has taken so long."""
+        fit = drops * _SECONDS_IN_BLOCK / max(seconds, 1e-9)
+        self.drops = max(1, int(min(fit, max(self.drops, 1.5 * drops + 1))))
 
 
 class _Asked:
@@ -117,7 +131,7 @@ class Drive(HasPile):
     Parameters
     ----------
     pile : array_like of int
-        The start, shape (height, width), sides from 1 to 256, any integer type. Settled first; the
+        The start, shape (height, width), sides from 1 to 8,192, any integer type. Settled first; the
         argument is not modified.
     seed : int or numpy.random.SeedSequence, optional
         The seed of the random sites: an integer from 0 to 2**64 - 1, or a sequence, whose
@@ -186,7 +200,7 @@ class Drive(HasPile):
     def _hold(self, given: Heights, state: _State) -> None:
         """Makes the library hold a pile that was given these grains, in all drops so far and in those of the table."""
         self._handle, self._shape = DriveHandle(given, self._cylinder), given.shape
-        self._most = min(_MOST_IN_BLOCK, _WORK_IN_BLOCK // given.size)  # drops in a block
+        self._most, self._pace = _MOST_IN_BLOCK, _Pace(given.shape, self._cylinder)  # drops in a block
         self._ahead = (0, _NO_SITES, 0)  # a place in the stream, the sites from there on, and their address
         self._few = self._found = _room(_FEW)  # the avalanches of the last block, and their address
         self._go_on: Optional[Callable[[], None]] = None  # called before each block; may raise an error
@@ -214,7 +228,7 @@ class Drive(HasPile):
     @property
     def pile(self) -> Heights:
         """The current heights, each from 0 to 3; a new array of shape (height, width), int64."""
-        pile = np.empty(self._shape, np.int64)
+        pile = new_array(self._shape, np.int64, "the heights")
         self._read(pile=pile)
         return pile
 
@@ -222,7 +236,7 @@ class Drive(HasPile):
     def odometer(self) -> Heights:
         """How often each site has toppled, the settling of the start included; a new array of shape (height, width),
         int64."""
-        odometer = np.empty(self._shape, np.int64)
+        odometer = new_array(self._shape, np.int64, "the odometer")
         self._read(odometer=odometer)
         return odometer
 
@@ -317,8 +331,9 @@ class Drive(HasPile):
     def drop(self, n: SupportsIndex, progress: bool = False, odometers: bool = False, waves: bool = False) -> Any:
         """Drops `n` grains at the next random sites.
 
-        Ctrl-C stops between two blocks of drops. It raises `KeyboardInterrupt`; the pile then has all drops so far, and
-        `table` has their avalanches. The next call continues from there.
+        Ctrl-C stops between two blocks of drops, of about a twentieth of a second, unless one avalanche takes longer. It raises
+        `KeyboardInterrupt`; the pile then has all drops so far, and `table` has their avalanches. The next call continues from
+        there.
 
         Parameters
         ----------
@@ -351,9 +366,9 @@ class Drive(HasPile):
         Raises
         ------
         Fault
-            Plan (15) if `n` is negative, Full (6) if the start and all drops exceed 1,099,511,627,775 grains together,
-            or Memory (4), which keeps the blocks before it, like Ctrl-C; if the arrays that are returned cannot be made, no
-            grain drops.
+            Plan (15) if `n` is negative, Full (6) if the start and all drops exceed the `grain_limit` together, or Memory
+            (4): before the first drop if a table or the topplings need more than is available, and with `waves` after any block
+            of drops, which keeps the blocks before it, like Ctrl-C.
         TypeError
             If `n` is not an integer, or both `odometers` and `waves` are asked for.
         RuntimeError
@@ -633,7 +648,8 @@ class Drive(HasPile):
         Raises
         ------
         Fault
-            NoSite (25) if the site is outside the grid, or Full (6), as from `drop`.
+            NoSite (25) if the site is outside the grid, Full (6), as from `drop`, or Memory (4), after the drop: a byte for each
+            site and wave.
         TypeError
             If the site, or its row and its column, are not integers.
         RuntimeError
@@ -686,24 +702,30 @@ class Drive(HasPile):
 
     def _next_block(self, most: int) -> NDArray[np.void]:
         """Makes a block of at most so many drops at random sites. Only under the lock for drops."""
-        return self._make_all(lambda: (min(most, self._most), self._draw), True, False, _drop, self._most)
+        return self._make_all(lambda: (min(most, self._most, self._pace.drops), self._draw), True, False, _drop, self._most)
 
     def _make_all(self, ask: _Ask, draws: bool, progress: bool, make: _Make, most: int) -> NDArray[np.void]:
         sites = self._begun(ask, draws, most)
-        asked, handle, (found, at) = self._asked, self._handle, self._found
-        n = len(asked.table)
-        with Bar(n) if progress else _NO_BAR as bar:
-            for begin in range(0, n, most):
-                end = min(begin + most, n)
-                if self._go_on:
-                    self._go_on()
-                place = sites(begin, end)
-                with handle.use:
-                    make(handle.at, place, end - begin, at, begin)
-                    asked.fill(end, found)
+        table, begin = self._asked.table, 0
+        with Bar(len(table)) if progress else _NO_BAR as bar:
+            while begin < len(table):
+                end = begin + min(most, self._pace.drops, len(table) - begin)
+                self._make_block(begin, end, sites, make)
                 if bar:
                     bar.show(end)
-        return asked.table
+                begin = end
+        return table
+
+    def _make_block(self, begin: int, end: int, sites: Callable[[int, int], int], make: _Make) -> None:
+        """Makes the drops of a call from one up to another."""
+        if self._go_on:
+            self._go_on()
+        (found, at), place = self._found, sites(begin, end)
+        with self._handle.use:
+            begun = time.perf_counter()
+            make(self._handle.at, place, end - begin, at, begin)
+            self._asked.fill(end, found)
+            self._pace.note(end - begin, time.perf_counter() - begun)
 
     def _begun(self, ask: _Ask, draws: bool, most: int) -> Callable[[int, int], int]:
         """Makes a table for the drops that `ask` returns, and returns where their sites are. From here on, Ctrl-C leaves no row of
@@ -724,8 +746,8 @@ class Drive(HasPile):
 
     def _check_grains(self, n: int) -> None:
         """Refuses `n` more drops if they exceed the limit of grains."""
-        if self._start_grains + self._asked.first + self._asked.made + n > _MOST_GRAINS:
-            raise Fault(6)
+        if self._start_grains + self._asked.first + self._asked.made + n > most_grains(*self._shape):
+            raise Fault(6, f"the pile and its drops together exceed {most_in_words(*self._shape)}")
 
     def _draw(self, begin: int, end: int) -> int:
         """The address of the sites of the stream at which a call makes its drops from one up to another."""
@@ -751,7 +773,7 @@ class Drive(HasPile):
 
     def _saved(self) -> tuple[_saves.Saved, _State]:
         """What a file keeps of the run, and the state at that time."""
-        pile, odometer = np.empty(self._shape, np.int64), np.empty(self._shape, np.int64)
+        pile, odometer = (new_array(self._shape, np.int64, what) for what in ("the heights", "the odometer"))
         _, lost, state = self._read(pile, odometer)
         numbers = (self._seed, self._stream, self._cylinder, self._start_grains, lost, state.drops, state.drawn)
         return _saves.Saved(pile, odometer, *numbers), state

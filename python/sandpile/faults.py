@@ -4,11 +4,11 @@ from __future__ import annotations
 
 # Number: name and meaning, as in docs/FORMATS.md. The missing numbers cannot reach Python.
 _FAULTS = {
-    1: ("Side", "the width or the height of a grid is outside 1 to 256"),
+    1: ("Side", "the width or the height of a grid is outside 1 to 8192"),
     2: ("Length", "an array has the wrong length"),
-    3: ("TooManyGrains", "the pile has more than 1,099,511,627,775 grains"),
+    3: ("TooManyGrains", "the pile has more grains than the limit of its grid"),
     4: ("Memory", "an allocation failed"),
-    6: ("Full", "the pile and its drops exceed 1,099,511,627,775 grains together"),
+    6: ("Full", "the pile and its drops exceed the grain limit of the grid together"),
     7: ("Unstable", "a site has more than 3 grains"),
     8: ("NotRecurrent", "a pile is not recurrent: some of its sites form a forbidden set"),
     9: ("Shapes", "the two piles differ in width or height, or only one is a cylinder"),
@@ -33,8 +33,8 @@ _MEMORY = 4
 
 
 class Fault(ValueError):
-    """The input of a call is invalid, or an allocation failed. Nothing has changed, except that `Drive.drop` and
-    `Drive.drop_at` keep the blocks of drops before a failed allocation. A fault of Memory is also a `MemoryError`.
+    """The input of a call is invalid, or memory is missing. Nothing has changed, except that `Drive.drop` and `Drive.drop_at` keep
+    the blocks of drops before memory for waves was missing, and `Drive.waves` its drop. A fault of Memory is also a `MemoryError`.
 
     Attributes
     ----------
@@ -49,10 +49,10 @@ class Fault(ValueError):
     --------
     >>> import sandpile
     >>> try:
-    ...     sandpile.identity((4, 257))
+    ...     sandpile.identity((4, 9000))
     ... except sandpile.Fault as fault:
-    ...     print(fault.number, fault.name, fault.sentence, sep=", ")
-    1, Side, the width or the height of a grid is outside 1 to 256
+    ...     print(fault.number, fault.name, fault.sentence)
+    1 Side 9,000 columns; a grid has at most 8,192
     """
 
     def __new__(cls, number: int, sentence: str | None = None, name: str | None = None) -> Fault:

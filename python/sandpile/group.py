@@ -11,16 +11,18 @@ from typing import TYPE_CHECKING, Any, Literal, Sequence, SupportsIndex, overloa
 import numpy as np
 from numpy.typing import ArrayLike, NDArray
 
-from ._arrays import HasPile, Heights, checked_edge, directions_of, edge_of, heights_and_edge, index_of, shape_of, site_at
-from ._library import call
+from ._arrays import (
+    HasPile, Heights, checked_edge, directions_of, edge_of, heights_and_edge, index_of, new_array, shape_of, site_at,
+)
+from ._library import call, most_grains
+from ._memory import room_for
 from ._stacks import each_class, each_pile
 from .burning import burned, burned_stack
 from .faults import Fault, ShapeError
 from .settling import settle
 from .trees import Tree
 
-# A pile has fewer grains than 2 to this.
-_GRAIN_BITS = 40
+_COPY = "a copy of the heights"
 
 
 def _refuse_array(other: object) -> None:
@@ -165,7 +167,7 @@ class Recurrent(HasPile):
         >>> a.act(0).act(row=1, column=1) == a.act(3).act(0)
         True
         """
-        heights = self._pile.copy()
+        heights = self._copied()
         height, width = self.shape
         heights.reshape(-1, height * width)[:, site_at(site, row, column, self.shape)] += 1
         return Recurrent._known(settle(heights, self._cylinder).pile, self._cylinder)
@@ -206,9 +208,10 @@ class Recurrent(HasPile):
         """
         if self._pile.ndim != 2:
             raise ShapeError("a tree is that of a single element, but this is a stack")
-        directions = np.empty(self.shape, np.uint8)
+        directions = new_array(self.shape, np.uint8, "a tree")
         call("tree", self.shape, self._cylinder, self._pile, directions)
-        return Tree(directions.astype(np.int64), self._cylinder)
+        with room_for("a tree"):
+            return Tree(directions.astype(np.int64), self._cylinder)
 
     @classmethod
     def from_tree(cls, directions: ArrayLike | Tree, cylinder: bool | None = None) -> Recurrent:
@@ -245,13 +248,17 @@ class Recurrent(HasPile):
         """
         edges = {directions.cylinder} if isinstance(directions, Tree) else set()
         ways = directions_of(directions.directions if isinstance(directions, Tree) else directions)
-        edge, heights = edge_of(edges, cylinder), np.empty(ways.shape, np.int64)
+        edge, heights = edge_of(edges, cylinder), new_array(ways.shape, np.int64, "the heights")
         call("of_tree", ways.shape, edge, ways, heights)
         return cls._known(heights, edge)
 
+    def _copied(self) -> Heights:
+        with room_for(_COPY):
+            return self._pile.copy()
+
     def _made(self, name: str, *arguments: Any) -> Recurrent:
         """The element that an export of the library makes from this one."""
-        heights = self._pile.copy()
+        heights = self._copied()
         for one in _piles(heights):
             call(name, self.shape, self._cylinder, one, *arguments)
         return Recurrent._known(heights, self._cylinder)
@@ -267,7 +274,8 @@ class Recurrent(HasPile):
         if min(counts) != max(counts):
             raise Fault(9, f"one stack has {counts[0]} piles, but the other {counts[1]}")
         shape = (*counts[:1], *self.shape)
-        heights, others = (np.array(np.broadcast_to(a._pile, shape), order="C") for a in (self, other))
+        with room_for("the heights of a stack"):
+            heights, others = (np.array(np.broadcast_to(a._pile, shape), order="C") for a in (self, other))
         for one, another in zip(heights, others):
             call("add", self.shape, self._cylinder, one, another)
         return Recurrent._known(heights, self._cylinder)
@@ -326,12 +334,15 @@ class Recurrent(HasPile):
         if n < 1 << 64:
             return self._made("multiple", n)
         height, width = self.shape
-        most = _GRAIN_BITS - 1 - (3 * height * width).bit_length()
+        most = (most_grains(height, width) // (3 * height * width)).bit_length() - 2
         bits = f"{n:b}"
         bits = bits.zfill(-(-len(bits) // most) * most)
-        heights = np.zeros_like(self._pile)
+        heights = self._copied()
+        heights.fill(0)
         for at in range(0, len(bits), most):
-            heights = (heights << most) + self._pile * int(bits[at : at + most], 2)
+            with room_for(_COPY):
+                heights <<= most
+                heights += self._pile * int(bits[at : at + most], 2)
             for one in _piles(heights):
                 call("recurrent", self.shape, self._cylinder, one)
         return Recurrent._known(heights, self._cylinder)
@@ -385,7 +396,7 @@ def identity(shape: Sequence[SupportsIndex], cylinder: bool = False) -> Recurren
     Parameters
     ----------
     shape : tuple of int
-        The height and the width of the grid, each from 1 to 256.
+        The height and the width of the grid, each from 1 to 8,192.
     cylinder : bool
         Whether the first and the last column are neighbours.
 
@@ -417,7 +428,7 @@ def identity(shape: Sequence[SupportsIndex], cylinder: bool = False) -> Recurren
     array([[2, 1, 2],
            [2, 1, 2]])
     """
-    heights, edge = np.zeros(shape_of(shape), np.int64), checked_edge(cylinder)
+    heights, edge = new_array(shape_of(shape), np.int64, "the heights"), checked_edge(cylinder)
     call("identity", heights.shape, edge, heights)
     return Recurrent._known(heights, edge)
 
@@ -442,7 +453,7 @@ def recurrent(pile: ArrayLike, cylinder: bool | None = None, firing: bool = Fals
     Parameters
     ----------
     pile : array_like of int
-        Grains on each site, shape (height, width), sides from 1 to 256, any integer type. Heights may be negative. Not
+        Grains on each site, shape (height, width), sides from 1 to 8,192, any integer type. Heights may be negative. Not
         modified. An array of shape (k, height, width), or a list of piles of one shape, is a stack, which may be empty.
     cylinder : bool, optional
         Whether the first and the last column are neighbours. By default as in `pile` if that has a `cylinder`, else False.
@@ -461,7 +472,7 @@ def recurrent(pile: ArrayLike, cylinder: bool | None = None, firing: bool = Fals
     Raises
     ------
     Fault
-        Side (1), Narrow (24), TooManyGrains (3) if the absolute values of the heights sum to more than 1,099,511,627,775,
+        Side (1), Narrow (24), TooManyGrains (3) if the absolute values of the heights sum to more than the `grain_limit`,
         Memory (4), or Shapes (9) if `pile` has the other edge.
     ValueError
         If `pile` has neither two nor three dimensions; this is also a `TypeError`.
@@ -500,10 +511,10 @@ def recurrent(pile: ArrayLike, cylinder: bool | None = None, firing: bool = Fals
     (Recurrent([[3, 1, 3]]), array([[-1, -1, -1]]))
     """
     heights, edge = heights_and_edge(pile, cylinder, may_be_stack=True, may_be_negative=True)
-    if not firing and not (heights < 0).any():
+    if not firing and not (heights.size and heights.min() < 0):
         each_pile("recurrent", heights, edge)
         return Recurrent._known(heights, edge)
-    vector = np.empty(heights.shape if firing else 0, np.int64)
+    vector = new_array(heights.shape if firing else 0, np.int64, "the firing vector")
     each_class("class", heights, edge, vector)
     element = Recurrent._known(heights, edge)
     return (element, vector) if firing else element

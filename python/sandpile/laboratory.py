@@ -15,6 +15,7 @@ import numpy as np
 from numpy.typing import ArrayLike, NDArray
 
 from ._arrays import HasPile, Heights, heights_and_edge, index_of, listed, seed_of
+from ._limits import check_sides
 from ._results import Result
 from .faults import Fault
 
@@ -23,6 +24,8 @@ _CHECKOUT = Path(__file__).resolve().parents[2] / "crates" / "sandpile" / "out" 
 _ABOVE = list(Path(__file__).parents)
 _INSTALLED = [folder / "bin" for folder in _ABOVE[1:2] + _ABOVE[4:5]]
 _USAGE = 23
+# A pile is passed as a text.
+_MOST_SIDE = 256
 # docs/FORMATS.md describes it.
 _OUTPUT = re.compile(
     r"epoch drops topplings lost grains\n(?P<epochs>(?:\d+(?: \d+){4}\n)*)total \d+(?: \d+){3}\n"
@@ -130,7 +133,7 @@ def lab(
     each epoch.
 
     The program `sandpile` does the run: the one named by the variable SANDPILE, else that of the checkout, else the one
-    installed with this module, else the one on the path.
+    installed with this module, else the one on the path. It takes sides up to 256; a `SharedPile` takes longer ones.
 
     Parameters
     ----------
@@ -194,6 +197,7 @@ def lab(
     options = dict(
         seed=number, droppers=droppers, drops=drops, epochs=epochs, workers=workers, sweeps=sweeps, observers=observers
     )
+    check_sides(heights.shape, _MOST_SIDE, "lab runs the program, which takes")
     words = [f"--{name}={index_of(value, name)}" for name, value in options.items()]
     ended = subprocess.run(
         [_program(), "lab", *words], input=_text_of(heights, edge), capture_output=True, check=False,

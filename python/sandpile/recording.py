@@ -35,7 +35,7 @@ if TYPE_CHECKING:
     from .driving import Drive
 
 _PLAN = 15
-# So many bytes of the file are read at once, and so many random sites are drawn.
+# So many bytes of the file are read at once, and so many random sites are drawn, or as many as the grid has.
 _BYTES_AT_ONCE, _SITES_AT_ONCE = 1 << 20, 1 << 16
 
 
@@ -190,8 +190,9 @@ def _difference(run: Drive, saved: Saved) -> Optional[str]:
 def _grains(saved: Saved, end: int) -> Heights:
     """How many grains fall on each site from where a run is up to a place in its stream of random sites."""
     grains = np.zeros(saved.pile.size, np.int64)
-    for begin in range(saved.drawn, end, _SITES_AT_ONCE):
-        sites = np.empty(min(_SITES_AT_ONCE, end - begin), np.int64)
+    at_once = max(_SITES_AT_ONCE, grains.size)
+    for begin in range(saved.drawn, end, at_once):
+        sites = np.empty(min(at_once, end - begin), np.int64)
         call("sites", saved.pile.shape, bool(saved.cylinder), saved.seed, saved.stream, begin, sites)
         grains += np.bincount(sites, minlength=grains.size)
     return grains.reshape(saved.pile.shape)

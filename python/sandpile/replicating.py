@@ -112,10 +112,12 @@ def _replica(plan: _Plan, stream: int, stop: threading.Event | None = None) -> A
 def _table(plan: _Plan, stream: int, go_on: Callable[[], None]) -> _Table:
     run, table = plan.run(stream, go_on), new_array(plan.drops, REPLICA, f"a table of {plan.drops} drops")
     go_on()
-    for block in run.blocks(plan.drops, run._most):
-        rows = table[run.drops - len(block) : run.drops]
-        rows["stream"], rows[_AVALANCHE] = stream, block
-        go_on()
+    with run._handle.dropping():
+        while run.drops < plan.drops:
+            block = run._next_block(plan.drops - run.drops)
+            rows = table[run.drops - len(block) : run.drops]
+            rows["stream"], rows[_AVALANCHE] = stream, block
+            go_on()
     return table
 
 

@@ -10,17 +10,17 @@ from __future__ import annotations
 
 import ctypes
 from dataclasses import dataclass
-from typing import Any
+from typing import Any, Sequence, SupportsIndex
 
 import numpy as np
 from numpy.typing import ArrayLike
 
-from ._arrays import HasPile, Heights, heights_and_edge, new_array
-from ._library import call
+from ._arrays import HasPile, Heights, heights_and_edge, new_array, shape_of
+from ._library import call, most_grains, most_in_words
 from ._results import Result
 from .faults import Fault
 
-_TOO_MANY_GRAINS, _MOST_GRAINS = 3, 1_099_511_627_775
+_TOO_MANY_GRAINS = 3
 # A call of the library settles piles with so many sites together, or one pile. Ctrl-C waits for its end.
 _SITES_AT_ONCE = 1 << 16
 
@@ -57,7 +57,7 @@ def settle(pile: ArrayLike, cylinder: bool | None = None) -> Settled:
     Parameters
     ----------
     pile : array_like of int
-        Grains on each site, shape (height, width), sides from 1 to 256, any integer type. Not modified. An array of shape
+        Grains on each site, shape (height, width), sides from 1 to 8,192, any integer type. Not modified. An array of shape
         (k, height, width), or a list of piles of one shape, is a stack, which may be empty.
     cylinder : bool, optional
         Whether the first and the last column are neighbours, so that grains are lost only in the north and the south. By
@@ -106,7 +106,7 @@ def settle(pile: ArrayLike, cylinder: bool | None = None) -> Settled:
 
 
 def _settled(heights: Heights, edge: bool) -> Settled:
-    odometer = np.empty(heights.shape, np.int64)
+    odometer = new_array(heights.shape, np.int64, "the odometer")
     lost, topplings = ctypes.c_uint64(), ctypes.c_uint64()
     call("settle", heights.shape, edge, heights, odometer, ctypes.byref(lost), ctypes.byref(topplings))
     return Settled(heights, odometer, lost.value, topplings.value, edge)
@@ -116,20 +116,53 @@ def _settled_stack(heights: Heights, edge: bool) -> Settled:
     count, *shape = heights.shape
     odometer = new_array(heights.shape, np.int64, f"the odometers of {count} piles")
     lost, topplings = np.empty(count, np.int64), np.empty(count, np.int64)
-    at_once = _SITES_AT_ONCE // (shape[0] * shape[1])
+    at_once = max(1, _SITES_AT_ONCE // (shape[0] * shape[1]))
     for begin in range(0, max(count, 1), at_once):  # without piles, the edge is checked all the same
         some = slice(begin, begin + at_once)
         try:
             call("settle_all", tuple(shape), edge, heights[some], odometer[some], lost[some], topplings[some])
         except Fault as fault:
-            raise _of_stack(fault, heights) from None
+            raise _of_stack(fault, heights[some], begin) from None
     return Settled(heights, odometer, lost, topplings, edge)
 
 
-def _of_stack(fault: Fault, heights: Heights) -> Fault:
-    """The fault of a stack. One of too many grains names the first pile that has them; those before it may be settled."""
+def _of_stack(fault: Fault, piles: Heights, begin: int) -> Fault:
+    """The fault of some piles of a stack, from this one on. One of too many grains names the first pile that has them; those
+    before it may be settled."""
     if fault.number != _TOO_MANY_GRAINS:
         return fault
-    grains = np.minimum(heights.view(np.uint64), _MOST_GRAINS + 1).sum(axis=(1, 2))
-    first = int((grains > _MOST_GRAINS).argmax())
-    return Fault(_TOO_MANY_GRAINS, f"pile {first} of the stack has more than {_MOST_GRAINS:,} grains")
+    shape = piles.shape[1:]
+    most = most_grains(*shape)
+    grains = np.minimum(piles.view(np.uint64), most + 1).sum(axis=(1, 2))
+    first = begin + int((grains > most).argmax())
+    return Fault(_TOO_MANY_GRAINS, f"pile {first} of the stack has more than {most_in_words(*shape)}")
+
+
+def grain_limit(shape: Sequence[SupportsIndex]) -> int:
+    """How many grains a pile on a grid may have, together with all that drop on it.
+
+    Parameters
+    ----------
+    shape : tuple of int
+        The height and the width of the grid, each from 1 to 8,192.
+
+    Returns
+    -------
+    int
+        ``min(2**40 - 1, (2**57 - 1) // (height + 1)**2)``: on up to 361 rows 2**40 - 1, on 4,096 rows and as many columns 511
+        grains a site, and on 8,192 by 8,192 sites 31.
+
+    Raises
+    ------
+    Fault
+        Side (1).
+    TypeError
+        If `shape` is not two integers.
+
+    Examples
+    --------
+    >>> import sandpile
+    >>> sandpile.grain_limit((361, 8192)), sandpile.grain_limit((4096, 4096))
+    (1099511627775, 8585741823)
+    """
+    return most_grains(*shape_of(shape))

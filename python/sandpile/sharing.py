@@ -17,14 +17,16 @@ from typing import Any, SupportsIndex
 import numpy as np
 from numpy.typing import ArrayLike, NDArray
 
-from ._arrays import Heights, count_of, heights_and_edge, sites_at
+from . import _memory
+from ._arrays import Heights, count_of, heights_and_edge, new_array, sites_at
 from ._handles import PassHandle
-from ._library import call, call_on
+from ._library import call, call_on, most_in_words
+from ._limits import MOST_SIDE
 from .faults import Fault
 from .settling import Settled
 
-_TOO_MANY_ROWS, _APART, _MISSING, _EMPTY, _OTHER_PILE = 11, 12, 14, 26, 27
-_MOST_ROWS = 256
+_TOO_MANY_GRAINS, _TOO_MANY_ROWS, _APART, _MISSING, _EMPTY, _OTHER_PILE = 3, 11, 12, 14, 26, 27
+_BYTES_OF_A_DROP = 16
 # The struct of include/sandpile.h.
 _HOLDING = np.dtype(
     [("left", "u8"), ("seen", "u8"), ("drops", np.uintp), ("first_row", "u2"), ("end_row", "u2")], align=True
@@ -62,7 +64,13 @@ class _Passes:
         # A signal's handler may count the drops in the thread that does so.
         self._lock, self._looks = threading.RLock(), threading.RLock()
         self._first, self._observer = PassHandle(), PassHandle()
-        call("shared_new", heights.shape, cylinder, heights, quota, self._first.at)
+        _memory.check(_BYTES_OF_A_DROP * quota, f"a quota of {quota:,} drops")
+        try:
+            call("shared_new", heights.shape, cylinder, heights, quota, self._first.at)
+        except Fault as fault:
+            if fault.number != _TOO_MANY_GRAINS:
+                raise
+            raise Fault(_TOO_MANY_GRAINS, f"the pile and its quota together exceed {most_in_words(*heights.shape)}") from None
         call_on("pass_split", self._first.at, 0, self._observer.at)
 
     def check(self) -> None:
@@ -124,12 +132,13 @@ class _Passes:
 
     def settle(self) -> Record:
         self.check()
-        heights, odometer = np.empty(self.shape, np.int64), np.empty(self.shape, np.int64)
+        heights, odometer = (new_array(self.shape, np.int64, what) for what in ("the heights", "the odometer"))
         lost, topplings, holding = ctypes.c_uint64(), ctypes.c_uint64(), np.zeros((), _HOLDING)
         with self._lock:
             self._gather()
             call_on("pass_holding", self._first.at, holding.ctypes.data)
-            history = _new_history(int(holding["drops"]))
+            drops = int(holding["drops"])
+            history = new_array(drops, np.int64, f"a history of {drops} drops")
             sums = (ctypes.byref(topplings), ctypes.byref(lost))
             call_on("pass_settle", self._first.at, heights, odometer, history, *sums)
         return Record(heights, odometer, lost.value, topplings.value, self.cylinder, history)
@@ -143,18 +152,9 @@ class _Passes:
             self._back.clear()
 
 
-def _new_history(drops: int) -> NDArray[np.int64]:
-    try:
-        return np.empty(drops, np.int64)
-    except MemoryError:
-        raise Fault(4, f"not enough memory for a history of {drops} drops") from None
-
-
 def _numbers_from_0(drops: int) -> NDArray[np.int64]:
-    try:
+    with _memory.room_for(f"the numbers of {drops} drops"):
         return np.arange(drops, dtype=np.int64)
-    except MemoryError:
-        raise Fault(4, f"not enough memory for the numbers of {drops} drops") from None
 
 
 class Part:
@@ -296,7 +296,7 @@ class SharedPile:
     Parameters
     ----------
     start : array_like of int
-        The start, shape (height, width), sides from 1 to 256, any integer type. It need not be stable, and is not modified.
+        The start, shape (height, width), sides from 1 to 8,192, any integer type. It need not be stable, and is not modified.
     quota : int
         How many grains may be dropped on it. Each takes 16 bytes, reserved now.
     cylinder : bool, optional
@@ -375,7 +375,7 @@ class SharedPile:
             If the pile is closed, or in a forked process.
         """
         drops, swept = count_of(quota, "quota"), count_of(0 if rows is None else rows, "rows")
-        if swept > _MOST_ROWS:  # the library takes 16 bits
+        if swept > MOST_SIDE:  # the library takes 16 bits
             raise Fault(_TOO_MANY_ROWS)
         part = Part(self._passes)
         try:

@@ -12,8 +12,8 @@ from typing import Any, Sequence, SupportsIndex
 
 import numpy as np
 
-from ._arrays import checked_edge, index_of, listed, shape_of
-from ._library import call_at
+from ._arrays import checked_edge, index_of, listed, new_array, shape_of
+from ._library import call_at, check_memory
 from .group import Recurrent
 
 
@@ -27,7 +27,7 @@ def random_recurrent(
     Parameters
     ----------
     shape : tuple of int
-        The height and the width of the grid, each from 1 to 256.
+        The height and the width of the grid, each from 1 to 8,192.
     seed : None, int, sequence of int, or numpy.random.SeedSequence
         What `numpy.random.SeedSequence` takes: integers from 0 on, of any length. The pile of a seed is the same with each
         version of NumPy, and has nothing to do with the sites at which a `Drive` of that seed drops grains. Without a seed it
@@ -77,7 +77,8 @@ def random_recurrent(
 
 def drawn(shape: tuple[int, int], seed: np.random.SeedSequence, edge: bool) -> Recurrent:
     """The pile of a seed."""
-    heights = np.empty(shape, np.int64)
+    check_memory("random", *shape)
+    heights = new_array(shape, np.int64, "the heights")
     # NumPy takes twice as long to generate two numbers of 64 bits, the same ones, and to tell the address itself.
     low, high, stream_low, stream_high = listed(seed.generate_state(4))
     words = low | high << 32, stream_low | stream_high << 32

@@ -8,6 +8,7 @@ import numpy as np
 from numpy.typing import ArrayLike
 
 from ._arrays import Heights, heights_and_edge
+from ._memory import room_for
 from ._stacks import each_class
 
 
@@ -17,7 +18,7 @@ def superstable(pile: ArrayLike, cylinder: bool | None = None) -> Heights:
     Parameters
     ----------
     pile : array_like of int
-        Grains on each site, shape (height, width), sides from 1 to 256, any integer type. Heights may be negative. Not
+        Grains on each site, shape (height, width), sides from 1 to 8,192, any integer type. Heights may be negative. Not
         modified. An array of shape (k, height, width), or a list of piles of one shape, is a stack, which may be empty.
     cylinder : bool, optional
         Whether the first and the last column are neighbours. By default as in `pile` if that has a `cylinder`, else False.
@@ -30,7 +31,7 @@ def superstable(pile: ArrayLike, cylinder: bool | None = None) -> Heights:
     Raises
     ------
     Fault
-        Side (1), Narrow (24), TooManyGrains (3) if the absolute values of the heights sum to more than 1,099,511,627,775,
+        Side (1), Narrow (24), TooManyGrains (3) if the absolute values of the heights sum to more than the `grain_limit`,
         Memory (4), or Shapes (9) if `pile` has the other edge.
     ValueError
         If `pile` has neither two nor three dimensions; this is also a `TypeError`.
@@ -95,7 +96,8 @@ def is_superstable(pile: ArrayLike, cylinder: bool | None = None) -> Any:
     (True, False)
     """
     heights, edge = heights_and_edge(pile, cylinder, may_be_stack=True, may_be_negative=True)
-    found = heights.copy()
+    with room_for("a copy of the heights"):
+        found = heights.copy()
     each_class("superstable", found, edge)
     same = (found == heights).all(axis=(-2, -1))
     return same if heights.ndim == 3 else bool(same)

@@ -13,12 +13,13 @@ from typing import Any
 import numpy as np
 from numpy.typing import NDArray
 
-from ._grid import neighbours
+from ._arrays import new_array
+from ._grid import COLUMNS, ROWS, beside
 from ._png import Pictured
 from ._results import Result
 
-# By direction, where a picture has the end of a site's edge: this many rows and columns from the site.
-_ROWS, _COLUMNS = np.array([-1, 0, 0, 1]), np.array([0, -1, 1, 0])
+# So many sites find their parents at once, in little memory.
+_SITES_AT_ONCE = 1 << 20
 # The colours of 3 grains and 0 grains.
 _PATH, _WALL = 3, 0
 
@@ -45,15 +46,19 @@ class Tree(Result, Pictured):
     @property
     def parents(self) -> NDArray[np.int64]:
         ways = self.directions.ravel()
-        ends: NDArray[np.int64] = neighbours(self.directions.shape, self.cylinder)[ways, np.arange(ways.size)]
+        ends = new_array(ways.size, np.int64, "the parents of a tree")
+        for begin in range(0, ways.size, _SITES_AT_ONCE):
+            some = np.arange(begin, min(begin + _SITES_AT_ONCE, ways.size))
+            ends[some[0] : some[-1] + 1] = beside(some, ways[some], self.directions.shape, self.cylinder)
         return ends.reshape(self.directions.shape)
 
     def _shown(self) -> Any:
         height, width = self.directions.shape
-        shown = np.full((2 * height + 1, 2 * width + 1), _WALL)
-        rows, columns = 2 * np.indices((height, width)) + 1
-        shown[rows, columns] = _PATH
-        shown[rows + _ROWS[self.directions], columns + _COLUMNS[self.directions]] = _PATH
+        shown = np.full((2 * height + 1, 2 * width + 1), _WALL, np.uint8)
+        shown[1::2, 1::2] = _PATH
+        for direction, (row, column) in enumerate(zip(ROWS, COLUMNS)):  # the end of an edge is between two sites
+            ends = shown[1 + row : 2 * height + row + 1 : 2, 1 + column : 2 * width + column + 1 : 2]
+            ends[self.directions == direction] = _PATH
         if self.cylinder:  # an edge around it has an end on both sides
             shown[:, 0] = shown[:, -1] = shown[:, [0, -1]].max(axis=1)
         return shown

@@ -8,14 +8,14 @@ the drop then has four grains again, another wave follows. An avalanche topples 
 from __future__ import annotations
 
 import ctypes
-import functools
 from typing import Any
 
 import numpy as np
 from numpy.typing import NDArray
 
-from ._arrays import Heights, listed, new_array
-from ._grid import neighbours
+from . import _memory
+from ._arrays import Heights, new_array
+from ._grid import DIRECTIONS, beside
 
 _NUMBERS = ("number", "wave", "size")
 #: The type of the rows of the waves that `Drive.drop` returns, one for each wave.
@@ -35,22 +35,36 @@ class WaveList:
         self._most, self._count = most, ctypes.c_size_t()
         # NumPy copies integers several times as fast as rows of this type.
         self._room: NDArray[np.int64] = np.empty((0, len(_NUMBERS)), np.int64)
-        self._parts = [self._room]
+        self._kept, self._number = self._room.copy(), 0
 
     def room(self, drops: int) -> tuple[int, int, Any]:
-        """Where the library writes the waves of the next block, how many have room there, and where it writes how many there are."""
+        """Where the library writes the waves of the next block, how many have room there, and where it writes how many there are.
+        From here on, there is also room to keep them."""
         needed = drops * self._most
         if len(self._room) < needed:
             self._room = new_array((needed, len(_NUMBERS)), np.int64, f"the waves of {drops} drops")
+        if len(self._kept) < self._number + needed:
+            self._grow(needed)
         return self._room.ctypes.data, needed, ctypes.byref(self._count)
+
+    def _grow(self, needed: int) -> None:
+        """Makes room for so many more waves, and for a part of those that may come. The system moves a large array without a copy."""
+        rows = self._number + needed + self._number // 4
+        what = f"{self._number:,} waves and more"
+        _memory.check((rows - self._number) * self._kept.strides[0], what)
+        with _memory.room_for(what):
+            self._kept.resize((rows, len(_NUMBERS)), refcheck=False)
 
     def keep(self) -> None:
         """Keeps what the library has written."""
-        self._parts.append(self._room[: self._count.value].copy())
+        end = self._number + self._count.value
+        self._kept[self._number : end] = self._room[: self._count.value]
+        self._number = end
 
     def all(self, before: int) -> NDArray[np.void]:
         """The waves of all blocks. So many drops were made before those that the library counts."""
-        waves = np.concatenate(self._parts).ravel().view(WAVE)
+        self._kept.resize((self._number, len(_NUMBERS)), refcheck=False)
+        waves = self._kept.ravel().view(WAVE)
         if before:
             waves["number"] += before
         return waves
@@ -59,32 +73,34 @@ class WaveList:
 def masks(pile: Heights, site: int, cylinder: bool, sizes: NDArray[np.int64]) -> NDArray[np.bool_]:
     """Which sites topple in each wave of a drop on a stable pile, by the definition; shape (waves, height, width). Their
     numbers must be those that the library has found."""
-    heights, sides = [*listed(pile.ravel()), 0], _sides(pile.shape, cylinder)  # the sink is last
+    waves = new_array((sizes.size, *pile.shape), np.bool_, f"the sites of {sizes.size:,} waves")
+    heights, topples = np.append(pile, 0).astype(np.int8), np.zeros(pile.size + 1, bool)  # the sink is last
     heights[site] += 1
-    found = np.zeros((sizes.size, *pile.shape), bool)
-    for wave in found.reshape(sizes.size, pile.size):
-        wave[:] = np.frombuffer(_topple_wave(heights, site, sides), bool)[:-1]
-    if not np.array_equal(np.count_nonzero(found, axis=(1, 2)), sizes):
+    for wave in waves:
+        _topple_wave(heights, site, topples, pile.shape, cylinder)
+        wave[:] = topples[:-1].reshape(pile.shape)
+    if not np.array_equal(np.count_nonzero(waves, axis=(1, 2)), sizes):
         raise RuntimeError("the waves differ from those that the library has found: this is an error of the module sandpile")
-    return found
+    return waves
 
 
-@functools.lru_cache(maxsize=4)
-def _sides(shape: tuple[int, ...], cylinder: bool) -> list[tuple[int, ...]]:
-    """The neighbours of each site, perhaps the sink."""
-    return [*zip(*listed(neighbours(shape, cylinder)))]
+def _topple_wave(
+    heights: NDArray[np.int8], site: int, topples: NDArray[np.bool_], shape: tuple[int, ...], cylinder: bool
+) -> None:
+    """Topples the sites of a wave, all that are due at once, and says which they are. The sink never topples."""
+    topples.fill(False)
+    topples[[site, -1]] = True
+    due = np.array([site])
+    while due.size:
+        heights[due] -= 4
+        sides = [beside(due, direction, shape, cylinder) for direction in DIRECTIONS]
+        for side in sides:
+            heights[side] += 1  # only the sink is more than once in a side
+        due = np.concatenate([_not_yet(side[heights[side] > 3], topples) for side in sides])
 
 
-def _topple_wave(heights: list[int], site: int, sides: list[tuple[int, ...]]) -> bytearray:
-    """Topples the sites of a wave, and returns a 1 for each. The sink never topples, however often it is reached."""
-    topples, due = bytearray(len(heights)), [site]
-    topples[site] = topples[-1] = 1
-    while due:
-        at = due.pop()
-        heights[at] -= 4
-        for side in sides[at]:
-            heights[side] += 1
-            if heights[side] > 3 and not topples[side]:
-                topples[side] = 1
-                due.append(side)
-    return topples
+def _not_yet(sites: NDArray[np.int64], topples: NDArray[np.bool_]) -> NDArray[np.int64]:
+    """Those of the sites that do not yet topple, and now do."""
+    new: NDArray[np.int64] = sites[~topples[sites]]
+    topples[new] = True
+    return new

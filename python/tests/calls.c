@@ -16,6 +16,40 @@ static void version(void) {
     assert(sandpile_version() == SANDPILE_VERSION);
 }
 
+/* 2^57 - 1 is 144,115,188,075,855,871: over the square of 363 it is less than 2^40 - 1, over that of 362 more. */
+static void grain_limit(void) {
+    const uint64_t low = 1093695695314;
+    const struct { size_t width, height; bool cylinder; uint64_t limit; uint32_t fault; } rows[] = {
+        {1, 1, false, 1099511627775, 0}, {8192, 361, true, 1099511627775, 0}, {1, 362, false, low, 0}, {3, 8192, true, 2146959455, 0},
+        {0, 1, false, 7, SANDPILE_SIDE}, {8193, 1, true, 7, SANDPILE_SIDE}, {2, 8193, true, 7, SANDPILE_SIDE},
+        {2, 8192, true, 7, SANDPILE_NARROW},
+    };
+    for (size_t i = 0; i < sizeof rows / sizeof *rows; i++) {
+        uint64_t limit = 7;
+        assert(sandpile_grain_limit(rows[i].width, rows[i].height, rows[i].cylinder, &limit) == rows[i].fault);
+        assert(limit == rows[i].limit);
+    }
+}
+
+/* A column of 362 sites takes so many grains, drops included, and a quota at most what is left. */
+static void fill_up(void) {
+    enum { ROWS = 362 };
+    uint64_t heights[ROWS] = {[181] = 1093695695313}, odometer[ROWS], lost, topplings;
+    const size_t drops[2] = {181, 0};
+    sandpile_avalanche a[2];
+    sandpile_drive driven = {0};
+    sandpile_pass pass = {0};
+    assert(sandpile_drive_new(1, ROWS, false, heights, ROWS, &driven) == 0);
+    assert(sandpile_drive_drop(&driven, drops, 2, a, 2) == SANDPILE_FULL && sandpile_drive_drop(&driven, drops, 1, a, 1) == 0);
+    assert(sandpile_drive_drop(&driven, drops, 1, a, 1) == SANDPILE_FULL);
+    assert(sandpile_shared_new(1, ROWS, false, heights, ROWS, 2, &pass) == SANDPILE_TOO_MANY_GRAINS);
+    assert(sandpile_shared_new(1, ROWS, false, heights, ROWS, 1, &pass) == 0);
+    heights[0] = 2;
+    assert(sandpile_settle(1, ROWS, false, heights, ROWS, odometer, ROWS, &lost, &topplings) == SANDPILE_TOO_MANY_GRAINS);
+    sandpile_drive_free(&driven);
+    sandpile_pass_free(&pass);
+}
+
 /* 5 0 0: the first site topples, and gives a grain to its neighbour and three to the sink. On a cylinder it gives one to the
    last site, too. */
 static void settle(void) {
@@ -55,7 +89,7 @@ static void settle_all_faults(void) {
         uint32_t fault;
     } rows[] = {
         {0, true, 3, 4, 2, 1, limit + 1, SANDPILE_SIDE},
-        {257, false, 3, 4, 2, 1, limit + 1, SANDPILE_SIDE},
+        {8193, false, 3, 4, 2, 1, limit + 1, SANDPILE_SIDE},
         {2, true, 3, 4, 2, 1, limit + 1, SANDPILE_NARROW},
         {2, false, 4, 4, 2, 1, limit + 1, SANDPILE_LENGTH},
         {2, false, 3, 4, 2, 2, limit + 1, SANDPILE_LENGTH},
@@ -95,6 +129,19 @@ static void sites(void) {
         size_t drawn[2] = {0};
         assert(sandpile_sites(256, 1, false, rows[i].seed, rows[i].stream, rows[i].from, drawn, 2) == 0);
         assert(ARE_EQUAL(drawn, rows[i].sites));
+    }
+}
+
+/* The words of key and nonce 0 at the places 0 and 1, and 16 and 17 (see `sites`). A grid of 256 rows of 256 sites takes one for a
+   site, and one of 257 rows takes two. */
+static void sites_of_large_grids(void) {
+    const struct { size_t height; uint64_t from, number; } rows[] = {
+        {256, 0, 0x2fef003e}, {256, 16, 0x0dfaaed2}, {257, 0, 0xd6405f892fef003e}, {257, 8, 0x51c1a5ea0dfaaed2},
+    };
+    for (size_t i = 0; i < sizeof rows / sizeof *rows; i++) {
+        size_t drawn = 0;
+        assert(sandpile_sites(256, rows[i].height, false, 0, 0, rows[i].from, &drawn, 1) == 0);
+        assert(drawn == rows[i].number % (256 * rows[i].height));
     }
 }
 
@@ -211,6 +258,24 @@ static void multiple(void) {
     for (size_t i = 0; i < sizeof rows / sizeof *rows; i++) {
         uint64_t heights[3] = {1, 0, 1};
         assert(sandpile_multiple(3, 1, false, heights, 3, rows[i].n) == 0 && ARE_EQUAL(heights, rows[i].sum));
+    }
+}
+
+/* 4 3 3 topples, and the first two sites of 0 0 3 form a forbidden set. Neither is reported as out of memory. */
+static void no_elements(void) {
+    const uint64_t piles[2][3] = {{4, 3, 3}, {0, 0, 3}}, full[3] = {3, 3, 3};
+    const uint32_t faults[2] = {SANDPILE_UNSTABLE, SANDPILE_NOT_RECURRENT};
+    for (int i = 0; i < 2; i++) {
+        uint64_t heights[3], sum[3] = {3, 3, 3};
+        uint8_t directions[3];
+        uint32_t times[3];
+        memcpy(heights, piles[i], sizeof heights);
+        assert(sandpile_tree(3, 1, false, heights, 3, directions, 3) == faults[i]);
+        assert(sandpile_add(3, 1, false, heights, 3, full, 3) == faults[i]);
+        assert(sandpile_add(3, 1, false, sum, 3, heights, 3) == faults[i] && ARE_EQUAL(sum, full));
+        assert(sandpile_inverse(3, 1, false, heights, 3) == faults[i]);
+        assert(sandpile_multiple(3, 1, false, heights, 3, 2) == faults[i] && ARE_EQUAL(heights, piles[i]));
+        assert(sandpile_burn_times(3, 1, false, heights, 3, times, 3) == (i == 0 ? SANDPILE_UNSTABLE : 0));
     }
 }
 
@@ -443,10 +508,13 @@ static void null_piles(void) {
 
 int main(void) {
     version();
+    grain_limit();
+    fill_up();
     settle();
     settle_all();
     settle_all_faults();
     sites();
+    sites_of_large_grids();
     burn();
     burn_times();
     tree();
@@ -457,6 +525,7 @@ int main(void) {
     add();
     inverse();
     multiple();
+    no_elements();
     class();
     superstable();
     drive();

@@ -359,7 +359,7 @@ static void refuse(void) {
     fill_with_threes();
     long live = atomic_load(&blocks);
     EXPECT(refuse_each(new_drive) > 0);
-    EXPECT(refuse_each(drop_on_drive) > 0);
+    EXPECT(refuse_each(drop_on_drive) == 0);
     EXPECT(refuse_each(waves) == 0);
     EXPECT(refuse_each(avalanche) == 0);
     EXPECT(refuse_each(read_drive) == 0);

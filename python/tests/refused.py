@@ -56,6 +56,7 @@ def try_call(name, call, kept=lambda: [pile, high, a.pile, *piles]):
 
 pile = np.random.default_rng(1).integers(0, 9, (7, 9))
 high = np.full((32, 32), 10**6)
+large = np.random.default_rng(2).integers(0, 8, (300, 300))
 assert malloc(IS_HERE) is not None, "refuse.c is not loaded"
 run = sandpile.Drive(pile)
 a = sandpile.recurrent(pile)
@@ -63,6 +64,7 @@ a = sandpile.recurrent(pile)
 piles = [np.array([pile, pile[::-1]], "u8"), np.zeros((2, 7, 9), "u8"), np.zeros(2, "u8"), np.zeros(2, "u8")]
 try_call("settle", lambda: sandpile.settle(pile))
 try_call("high", lambda: sandpile.settle(high))
+try_call("large", lambda: sandpile.settle(large))
 try_call("settle all", lambda: _library.call("settle_all", (7, 9), False, *piles))
 try_call("burn", lambda: sandpile.burn(a))
 try_call("identity", lambda: sandpile.identity((9, 7)))
@@ -86,8 +88,6 @@ def state():
     return [run.pile, run.odometer, run.lost, run.drops]
 
 
-# The first drop that succeeds ends the test, so the run does not change before.
-try_call("drop", lambda: run.drop_at([0, 1, 2]), state)
 run.save("run")
 try_call("load", lambda: sandpile.Drive.load("run"))
 try_call("copy", lambda: copy.copy(run), state)

@@ -9,7 +9,7 @@
 #include <sys/mman.h>
 #include <unistd.h>
 
-enum { STACK = 24 * 1024, PAINT = 0xa5, SIDE = 256, SITES = SIDE * SIDE, DROPS = 100 };
+enum { STACK = 24 * 1024, PAINT = 0xa5, SIDE = 256, SITES = SIDE * SIDE, DROPS = 100, TALL = 300, WAVES = DROPS * TALL / 2 };
 
 /* What the next call is given. */
 static size_t width, height, sites;
@@ -26,6 +26,11 @@ static sandpile_pass whole, upper, lower, child;
 static uint32_t nothing(void) { return 0; }
 
 static uint32_t version(void) { return sandpile_version() != SANDPILE_VERSION; }
+
+static uint32_t grain_limit(void) {
+    uint64_t limit;
+    return sandpile_grain_limit(width, height, cylinder, &limit);
+}
 
 static uint32_t settle(void) {
     uint64_t lost, topplings;
@@ -72,9 +77,9 @@ static uint32_t drive_new(void) { return sandpile_drive_new(width, height, cylin
 static uint32_t drive_drop(void) { return sandpile_drive_drop(&driven, places, DROPS, avalanches, DROPS); }
 
 static uint32_t drive_waves(void) {
-    static sandpile_wave waves[DROPS * SIDE / 2];
+    static sandpile_wave waves[WAVES];
     size_t count;
-    return sandpile_drive_waves(&driven, places, DROPS, avalanches, DROPS, waves, DROPS * SIDE / 2, &count);
+    return sandpile_drive_waves(&driven, places, DROPS, avalanches, DROPS, waves, WAVES, &count);
 }
 
 static uint32_t drive_avalanche(void) {
@@ -154,6 +159,7 @@ static uint32_t share_in_two(void) {
 static const struct { const char *name; uint32_t (*make)(void); uint64_t each; uint32_t (*fill)(void); } calls[] = {
     {"no call", nothing, 0, nothing},
     {"sandpile_version", version, 0, nothing},
+    {"sandpile_grain_limit", grain_limit, 0, nothing},
     {"sandpile_settle", settle, 4, nothing},
     {"sandpile_settle", settle, 16777215, nothing},
     {"sandpile_settle_all", settle_all, 4, nothing},
@@ -237,11 +243,11 @@ static size_t stack_of(uint32_t (*make)(void)) {
     return STACK - clean;
 }
 
-/* The most that a call takes on three sizes, with open edges and on a cylinder. */
+/* The most that a call takes on five sizes, with open edges and on a cylinder. */
 static size_t most_of(size_t call) {
-    const size_t sizes[3][2] = {{3, 1}, {64, 64}, {SIDE, SIDE}};
+    const size_t sizes[5][2] = {{3, 1}, {64, 64}, {SIDE, SIDE}, {TALL, 20}, {20, TALL}};
     size_t most = 0;
-    for (int i = 0; i < 6; i++) {
+    for (int i = 0; i < 10; i++) {
         width = sizes[i / 2][0];
         height = sizes[i / 2][1];
         sites = width * height;

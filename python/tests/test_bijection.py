@@ -98,7 +98,7 @@ class Trees(unittest.TestCase):
         ):
             self.assertRaisesRegex(sandpile.Fault, f"^fault 28 NotTree: {said}", from_tree, directions)
         for directions, cylinder, number in (
-            (np.zeros((1, 257), int), None, 1),
+            (np.zeros((1, 8193), int), None, 1),
             (np.zeros((0, 3), int), None, 1),
             ([[0, 0]], True, 24),
             (sandpile.identity((3, 3)).tree(), True, 9),

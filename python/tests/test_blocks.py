@@ -11,7 +11,7 @@ import sandpile
 from sandpile import driving
 from test_live import equal
 from test_random import toppling_matrix
-from tools import same
+from tools import in_blocks, same
 
 FULL = np.full((32, 32), 3)
 
@@ -83,7 +83,7 @@ class Cells(unittest.TestCase):
     def test_one_that_is_stopped_and_run_again(self):
         for number in itertools.count():
             run, other = (sandpile.Drive(FULL, seed=5) for _ in range(2))
-            run._most = 20
+            in_blocks(run, 20)
             rows = [run.drop(0)]
             is_stopped = is_stopped_at(number, lambda: cell(run, rows, 100))
             cell(run, rows, 100)

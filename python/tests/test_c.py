@@ -14,7 +14,7 @@ INCLUDE = f"-I{HEADER.parent}"
 STRICT = ["-pedantic", "-Wall", "-Wextra", "-Werror"]
 SANITIZED = ["-O1", "-g", "-fsanitize=address,undefined", "-fno-sanitize-recover=all"]
 VALGRIND = ["valgrind", "--quiet", "--error-exitcode=9", "--leak-check=full", "--show-leak-kinds=all"]
-LAST_LINE = "257 wide: the width or the height of a grid is outside 1 to 256"
+LAST_LINE = "8193 wide: the width or the height of a grid is outside 1 to 8192"
 
 
 class FromC(unittest.TestCase):

@@ -192,7 +192,7 @@ class Faults(unittest.TestCase):
 
     def test_they_come_in_order_and_change_nothing(self):
         least = -(1 << 63)
-        self.refused(1, (1, 257), [MOST, 1], 3)
+        self.refused(1, (1, 8193), [MOST, 1], 3)
         self.refused(24, (1, 2), [MOST, 1], 3, cylinder=True)
         self.refused(2, (1, 3), [MOST, 1], 2)
         self.refused(2, (1, 2), [MOST, 1], 3)

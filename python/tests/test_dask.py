@@ -18,7 +18,7 @@ def histogram(stream):
 
 
 def too_wide(_):
-    return np.zeros((1, 257), int)
+    return np.zeros((1, 8193), int)
 
 
 class Cluster(unittest.TestCase):
@@ -34,7 +34,7 @@ class Cluster(unittest.TestCase):
             with self.assertRaisesRegex(RuntimeError, "the replica of stream 5 failed: Fault: fault 1 Side") as failed:
                 next(sandpile.replicas(too_wide, 7, [5], DROPS, client))
             with self.assertRaises(sandpile.Fault) as caught:
-                client.submit(sandpile.identity, (1, 257)).result()
+                client.submit(sandpile.identity, (1, 8193)).result()
         self.assertEqual([caught.exception.number, failed.exception.__cause__.number], [1, 1])
         self.assertTrue(all(same(one, other) for others in tables[:2] for one, other in zip(others, tables[2])))
         self.assertEqual(list(map(len, tables)), [6, 6, 6])

@@ -19,7 +19,7 @@ from unittest import mock
 
 import numpy as np
 import sandpile
-from tools import needs_module, new_folder, ran, same
+from tools import in_blocks, needs_module, new_folder, ran, same
 
 FULL = np.full((32, 32), 3)
 MODULE = str(Path(sandpile.__file__).parents[1])
@@ -106,7 +106,7 @@ class Drops(unittest.TestCase):
         run.save(path)
         before = path.read_bytes()
         run.drop(10)
-        with mock.patch("numpy.savez_compressed", side_effect=OSError("disk full")), self.assertRaises(OSError):
+        with mock.patch("os.fsync", side_effect=OSError("disk full")), self.assertRaises(OSError):
             run.save(path)
         self.assertEqual(path.read_bytes(), before)
         self.assertEqual(list(path.parent.iterdir()), [path])
@@ -208,7 +208,7 @@ class Progress(unittest.TestCase):
         self.assertRegex(self.shown({"tqdm.auto": types.SimpleNamespace()}, io.StringIO()), " drops\n$")
 
     def test_a_tqdm_that_is_stopped(self):
-        run, tqdm = sandpile.Drive(FULL), Broken("update", KeyboardInterrupt)
+        run, tqdm = in_blocks(sandpile.Drive(FULL), 8192), Broken("update", KeyboardInterrupt)
         with mock.patch.dict(sys.modules, {"tqdm.auto": types.SimpleNamespace(tqdm=tqdm)}):
             self.assertRaises(KeyboardInterrupt, run.drop, 20_000, progress=True)
         self.assertEqual((len(run.table), tqdm.is_free()), (2 * 8192, True))

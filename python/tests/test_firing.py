@@ -122,7 +122,7 @@ class Wrong(unittest.TestCase):
     def test_other_faults(self):
         for call in self.CALLS:
             other = sandpile.identity((3, 3))
-            for pile, cylinder, number in (([[-1] * 257], False, 1), ([[-1, 0]], True, 24), (other, True, 9)):
+            for pile, cylinder, number in (([[-1] * 8193], False, 1), ([[-1, 0]], True, 24), (other, True, 9)):
                 with self.assertRaises(sandpile.Fault) as caught:
                     call(pile, cylinder)
                 self.assertEqual(caught.exception.number, number)

@@ -130,7 +130,7 @@ class ByInstall(unittest.TestCase):
                 text = ran("bash", "-euc", script, cwd=prefix, env={"PATH": os.environ["PATH"]})
                 self.assertEqual(text, want + "\n".join([
                     f"{prefix}/lib/python3/site-packages/sandpile/libsandpile.so.1",
-                    "257 wide: the width or the height of a grid is outside 1 to 256",
+                    "8193 wide: the width or the height of a grid is outside 1 to 8192",
                     sandpile.__version__, f"sandpile {sandpile.__version__}", "",
                 ]))
 
@@ -267,7 +267,7 @@ class ByInstall(unittest.TestCase):
             ran("cc", TOP / "examples" / "settle.c", *words, "-o", self.folder / name, env={"PATH": "/usr/bin:/bin"})
         shutil.rmtree(self.prefix)
         for name in ways:
-            self.assertIn("257 wide: ", ran(self.folder / name))
+            self.assertIn("8193 wide: ", ran(self.folder / name))
 
     @needs("cc", "cmake", "make")
     def test_cmake_finds_the_library(self):
@@ -283,7 +283,7 @@ class ByInstall(unittest.TestCase):
                 ran(*([*words[:-1], f"-DCMAKE_PREFIX_PATH={self.prefix}"] if libdir == "lib" else words))
                 ran("cmake", "--build", project / "built")
                 for name in ("shared", "alone"):
-                    self.assertIn("257 wide: ", ran(project / "built" / name))
+                    self.assertIn("8193 wide: ", ran(project / "built" / name))
                 shutil.rmtree(project / "built")
                 for version in ("0.9", "1.1", "2.0"):
                     (project / "CMakeLists.txt").write_text(in_cmake(version))

@@ -15,7 +15,7 @@ from unittest import mock
 import numpy as np
 import sandpile
 from sandpile import _library
-from tools import TOP, new_folder, ran, resident, same
+from tools import TOP, in_blocks, new_folder, ran, resident, same
 
 FULL = np.full((32, 32), 3)
 KEPT = ("pile", "odometer", "lost", "topplings", "drops", "table")
@@ -181,7 +181,7 @@ class CtrlC(unittest.TestCase):
                 self.assertTrue(equal(run, other))
 
     def test_in_a_later_block(self):
-        run, other, blocks = sandpile.Drive(FULL, seed=1), sandpile.Drive(FULL, seed=1), []
+        run, other, blocks = in_blocks(sandpile.Drive(FULL, seed=1), 500), sandpile.Drive(FULL, seed=1), []
 
         def come(export, *words):
             blocks.append(export(*words))
@@ -189,15 +189,15 @@ class CtrlC(unittest.TestCase):
                 raise KeyboardInterrupt
 
         with exported("drive_drop", come):
-            self.assertRaises(KeyboardInterrupt, run.drop, 3 * 8192)
-        other.drop(2 * 8192)
+            self.assertRaises(KeyboardInterrupt, run.drop, 3 * 500)
+        other.drop(2 * 500)
         self.assertTrue(equal(run, other))
 
 
 @contextlib.contextmanager
 def dropping(run, blocks, of):
     """Meanwhile another thread makes blocks `of` so many drops on a run."""
-    run._most = of
+    in_blocks(run, of)
     with ThreadPoolExecutor(1) as pool:
         yield pool.submit(run.drop, blocks * of)
 
@@ -221,7 +221,7 @@ class OneAfterAnother(unittest.TestCase):
 
     def test_a_signal_reads_a_run_that_drops(self):
         run, seen, stop = sandpile.Drive(np.full((64, 64), 3)), [], threading.Event()
-        run._most = 100
+        in_blocks(run, 100)
         self.addCleanup(signal.signal, signal.SIGALRM, signal.signal(signal.SIGALRM, lambda *_: seen.append(len(run.table))))
 
         def look():

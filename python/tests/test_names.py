@@ -11,8 +11,10 @@ HEADER = (TOP / "include" / "sandpile.h").read_text()
 FORMATS = (TOP / "docs" / "FORMATS.md").read_text()
 # The faults that are about arrays, handles and calls in the library, and about a text and options in the program.
 OF_ARRAYS = {2, 4, 19, 22, 23, 25}
+# Those about the limits of a grid, which in the program are those of small ones.
+OF_LIMITS = {1, 3, 6}
 # The faults of which the docs say both, or name what only Rattle has.
-OF_BOTH = {2, 3, 4, 14, 15, 17, 19, 22, 23}
+OF_BOTH = {1, 2, 3, 4, 14, 15, 17, 19, 22, 23}
 
 
 class Names(unittest.TestCase):
@@ -38,7 +40,7 @@ class Names(unittest.TestCase):
         for number, name, lines in explained:
             known_name, sentence = _FAULTS.get(int(number), (name, ""))
             self.assertEqual(name, known_name)
-            if int(number) not in OF_ARRAYS:
+            if int(number) not in OF_ARRAYS | OF_LIMITS:
                 said = " ".join(lines.split())
                 self.assertEqual(sentence[:1].upper() + sentence[1:], said[:len(sentence)])
 

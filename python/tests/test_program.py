@@ -16,7 +16,7 @@ def sides_of(chance):
     """A shape. Most are small; some are too narrow for a cylinder, and some are invalid."""
     kind = chance.random()
     if kind < 0.03:
-        return chance.choice([(0, 3), (3, 0), (257, 1), (1, 257), (0, 0)])
+        return chance.choice([(0, 3), (3, 0), (8193, 1), (1, 8193), (0, 0)])
     most = 8 if kind < 0.85 else 40 if kind < 0.97 else 256
     return chance.randint(1, most), chance.randint(1, most)
 

@@ -7,6 +7,7 @@ from unittest import mock
 import numpy as np
 import sandpile
 from sandpile import stationary
+from tools import words_of
 
 PI = np.pi
 # The probability of each height far from the edge (Priezzhev 1994; Kenyon and Wilson 2015).
@@ -32,6 +33,24 @@ def mean_size(side):
     angles = PI * np.arange(1, side + 1, 2) / (side + 1)  # of the eigenvectors whose sum is not 0
     sums = 2 / (side + 1) / np.tan(angles / 2) ** 2  # squared
     return (np.outer(sums, sums) / (4 - 2 * np.add.outer(np.cos(angles), np.cos(angles)))).sum() / side**2
+
+
+def wilsons_tree(shape, seed, cylinder):
+    """The directions of a random tree as Wilson states his algorithm, with loops erased as they close."""
+    (height, width), tree = shape, {}
+    words = words_of(*np.random.SeedSequence(seed).generate_state(2, np.uint64).tolist())
+    steps = (word >> at & 3 for word in words for at in range(0, 32, 2))
+    for start in np.ndindex(shape):
+        walk, (row, column) = {}, start
+        while 0 <= row < height and 0 <= column < width and (row, column) not in tree:
+            while (row, column) in walk:
+                walk.popitem()
+            direction = walk[row, column] = next(steps)
+            row += (direction == 3) - (direction == 0)
+            column += (direction == 2) - (direction == 1)
+            column = column % width if cylinder else column
+        tree.update(walk)
+    return [tree[site] for site in np.ndindex(shape)]
 
 
 def in_threads(call, count):
@@ -99,6 +118,13 @@ class Uniform(unittest.TestCase):
             self.assertEqual((pile.shape, pile.cylinder), (shape, cylinder))
             self.assertTrue(sandpile.burn(pile.pile, cylinder).is_recurrent)
 
+    def test_it_is_wilsons_tree(self):
+        shapes = ((3, 4), False), ((3, 4), True), ((8192, 1), False), ((1, 8192), True), ((600, 3), True), ((9, 8192), True)
+        for shape, cylinder in (*shapes, ((300, 257), False)):
+            with self.subTest(shape=shape, cylinder=cylinder):
+                tree = sandpile.random_recurrent(shape, 7, cylinder).tree()
+                self.assertEqual(tree.directions.ravel().tolist(), wilsons_tree(shape, 7, cylinder))
+
     def test_no_pile_has_too_many_grains(self):
         self.assertEqual({sandpile.random_recurrent((1, 1), seed)[0, 0] for seed in range(50)}, {0, 1, 2, 3})
 
@@ -145,7 +171,7 @@ class Seeds(unittest.TestCase):
             self.assertRaisesRegex(TypeError, "cylinder must be", sandpile.random_recurrent, (3, 3), 7, cylinder)
 
     def test_shapes_that_are_none(self):
-        for shape, cylinder, number in (((0, 3), False, 1), ((3, 257), False, 1), ((3, 2), True, 24)):
+        for shape, cylinder, number in (((0, 3), False, 1), ((3, 8193), False, 1), ((3, 2), True, 24)):
             with self.assertRaises(sandpile.Fault) as caught:
                 sandpile.random_recurrent(shape, 1, cylinder)
             self.assertEqual(caught.exception.number, number)

@@ -20,7 +20,7 @@ import numpy as np
 import sandpile
 from sandpile import _library
 from test_replicas import MODULE, soon
-from tools import files_in, same
+from tools import files_in, in_blocks, same
 
 FULL = np.full((16, 16), 3)
 ROW = sandpile.AVALANCHE.itemsize
@@ -32,8 +32,7 @@ ON_DISK = ("open", "pwrite", "fsync", "replace")
 def new_run(seed=1, drops_in_block=None):
     run = sandpile.Drive(FULL, seed=seed)
     run.drop(7)
-    run._most = drops_in_block or run._most
-    return run
+    return in_blocks(run, drops_in_block) if drops_in_block else run
 
 
 def expected(n, seed=1):

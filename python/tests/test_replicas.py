@@ -357,7 +357,7 @@ class Wrong(unittest.TestCase):
     def test_what_is_refused_at_once(self):
         for words, more in (
             (([[-1]], 1, [1], 1), {}),
-            (((3, 257), 1, [1], 1), {}),
+            (((3, 8193), 1, [1], 1), {}),
             (((3, 3), -1, [1], 1), {}),
             (((3, 3), 1, [1], -1), {}),
             (((3, 3), 1, [1], 1), {"window": 0}),

@@ -50,7 +50,7 @@ WRONG = {
     "an unstable pile": {"pile": lambda pile: pile + 4},
     "a pile below 0": {"pile": lambda pile: pile - 4},
     "an empty pile": {"pile": np.zeros((0, 0), np.uint64), "odometer": np.zeros((0, 0), np.uint64)},
-    "a side of 257": {"pile": np.zeros((1, 257), np.uint64), "odometer": np.zeros((1, 257), np.uint64)},
+    "a side of 8,193": {"pile": np.zeros((1, 8193), np.uint64), "odometer": np.zeros((1, 8193), np.uint64)},
     "a pile of objects": {"pile": lambda pile: pile.astype(object)},
     "a pile of records": {"pile": np.zeros((3, 5), [("x", int)])},
 }

@@ -145,6 +145,23 @@ class Threads(unittest.TestCase):
             self.assertTrue((done.history[mine] == sites.ravel()).all())
         self.assertEqualsOneThread(start, done)
 
+    def test_eight_threads_on_a_large_grid(self):
+        start, lists = sandpile.random_recurrent((512, 512), seed=1), np.random.default_rng(6).integers(0, 512**2, (8, 2, 1000))
+        meet = threading.Barrier(8)
+
+        def work(part, sites):
+            with part:
+                meet.wait(60)
+                for some in sites:
+                    part.drop(some)
+                    part.sweep()
+
+        with sandpile.SharedPile(start, quota=16_000) as pile, ThreadPoolExecutor(8) as pool:
+            list(pool.map(work, [pile.split(2000, rows=64) for _ in lists], lists))
+            done = pile.settle()
+        self.assertEqual(sorted(done.history), sorted(lists.ravel()))
+        self.assertEqualsOneThread(start, done)
+
     def assertEqualsOneThread(self, start, done):
         once, one = sandpile.settle(with_drops(start, done.history)), sandpile.Drive(start)
         one.drop_at(done.history)
@@ -186,7 +203,7 @@ class Misuse(unittest.TestCase):
 
     def test_arguments(self):
         for number, call in [
-            (1, lambda: sandpile.SharedPile(np.zeros((1, 257), int), 1)),
+            (1, lambda: sandpile.SharedPile(np.zeros((1, 8193), int), 1)),
             (24, lambda: sandpile.SharedPile([[0, 0]], 1, cylinder=True)),
             (3, lambda: sandpile.SharedPile([[2**40 - 5]], 5)),
             (15, lambda: sandpile.SharedPile([[5]], -1)),

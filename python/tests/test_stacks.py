@@ -80,7 +80,7 @@ class Stacks(unittest.TestCase):
         self.assertRaisesRegex(sandpile.Fault, "fault 9 Shapes: the piles have different edges", sandpile.settle, mixed)
 
     def test_faults(self):
-        for shape in [(2, 1, 257), (2, 0, 3), (0, 257, 1), (0, 0, 0)]:
+        for shape in [(2, 1, 8193), (2, 0, 3), (0, 8193, 1), (0, 0, 0)]:
             for cylinder in (False, True):
                 self.assertRaisesRegex(sandpile.Fault, "fault 1", sandpile.settle, np.zeros(shape, int), cylinder=cylinder)
         for count in (0, 1, 5):

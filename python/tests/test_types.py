@@ -57,6 +57,7 @@ assert_type(sandpile.recurrent(-p, cylinder=True, firing=False), sandpile.Recurr
 assert_type(sandpile.recurrent(p, firing=s.lost > 9), Any)
 assert_type(sandpile.superstable(-p), Counts)
 assert_type(sandpile.is_superstable(p), Any)  # of a stack it is an array
+assert_type(sandpile.grain_limit(p.shape), int)
 assert_type(a.pile, Counts)
 assert_type(a.shape, tuple[int, int])
 assert_type(a.cylinder, bool)
@@ -142,6 +143,16 @@ sandpile.show(b.forbidden, ax=sandpile.show([[1, 2]]))
 sandpile.animate(run, np.int64(5), toppling=True, interval=50).save("run.gif")
 sandpile.animate(run, waves=True).save("run.gif")
 assert_type(sandpile.WAVE, np.dtype[np.void])
+sandpile.show(run, click=True).figure.savefig("run.png")
+sandpile.show(run, ax=sandpile.show(run), click=True)
+for page in (
+    sandpile.play(), sandpile.play(run, browser=False, wait=False), sandpile.play((6, 5), 7, 1, True, port=np.int64(0)), sandpile.play(p, seed=7),
+    sandpile.play([[1, 2]]), sandpile.play(a),
+):
+    assert_type(page, sandpile.Page)
+    assert_type(page.run, sandpile.Drive)
+    assert_type(page.address, str)
+    page.close()
 
 for pile in (a, s, run, done, shared.settle()):
     sandpile.show(pile)
@@ -200,6 +211,11 @@ sandpile.burn(p).sites
 sandpile.show(None)
 sandpile.animate(p)
 sandpile.animate(run, 1.5)
+sandpile.show(run, click="c")
+sandpile.play(p, 7, "0")
+sandpile.play(run, seed="7")
+sandpile.play(run, port="80")
+sandpile.play(run).run = run
 """
 
 

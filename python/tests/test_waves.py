@@ -8,7 +8,7 @@ import numpy as np
 import sandpile
 from test_bijection import ends
 from test_live import equal
-from tools import same
+from tools import in_blocks, same
 
 GRIDS = ((1, 1, False), (1, 5, False), (2, 2, False), (7, 9, False), (16, 16, False), (1, 3, True), (5, 4, True), (9, 12, True))
 
@@ -125,7 +125,7 @@ class Tables(unittest.TestCase):
         for grid in GRIDS:
             one, other, third = runs(*grid, 3)
             one.drop(7), other.drop(7), third.drop(7)
-            one._most = 30  # so that there are several blocks
+            in_blocks(one, 30)  # so that there are several blocks
             table, waves = one.drop(100, waves=True)
             self.assertTrue(same(table, third.drop(100)))
             self.assertTrue(same(waves, np.array(list(one_by_one(other, 100)), sandpile.WAVE)))
@@ -157,7 +157,7 @@ class Tables(unittest.TestCase):
 
     def test_ctrl_c_keeps_what_was_done(self):
         one, other = runs(9, 9, False)
-        one._most, one._go_on = 10, mock.Mock(side_effect=[None] * 3 + [KeyboardInterrupt])
+        in_blocks(one, 10)._go_on = mock.Mock(side_effect=[None] * 3 + [KeyboardInterrupt])
         self.assertRaises(KeyboardInterrupt, one.drop, 100, waves=True)
         one._go_on = None
         self.assertTrue(same(one.table, other.drop(30)))

@@ -2,11 +2,14 @@
 
 import hashlib
 import importlib.util
+import itertools
 import os
 import shutil
+import struct
 import subprocess
 import sys
 import tempfile
+import types
 import unittest
 from pathlib import Path
 
@@ -14,6 +17,8 @@ import numpy as np
 import paths
 
 TOP, PROGRAM, LIBRARY = paths.TOP, paths.PROGRAM, paths.LIBRARY.parent
+# Of a double round of ChaCha: the four columns of its 16 words, then the four diagonals.
+_QUARTER_ROUNDS = [(at, 4 + (at + n) % 4, 8 + (at + 2 * n) % 4, 12 + (at + 3 * n) % 4) for n in (0, 1) for at in range(4)]
 
 
 def needs(*tools):
@@ -49,6 +54,24 @@ def fault_or(call):
         return call()
     except sandpile.Fault as fault:
         return fault.number
+
+
+def _block_of(seed, stream, at):
+    """The words of a block of ChaCha8, by Bernstein's definition of 2008."""
+    start = struct.unpack("<16I", b"expand 32-byte k" + struct.pack("<Q24xQQ", seed, at, stream))
+    state = list(start)
+    for a, b, c, d in 4 * _QUARTER_ROUNDS:
+        for x, y, z, bits in ((a, b, d, 16), (c, d, b, 12), (a, b, d, 8), (c, d, b, 7)):
+            state[x] = (state[x] + state[y]) % 2**32
+            mixed = state[z] ^ state[x]
+            state[z] = (mixed << bits | mixed >> 32 - bits) % 2**32
+    return [(a + b) % 2**32 for a, b in zip(start, state)]
+
+
+def words_of(seed, stream, place=0):
+    """The words of a stream from a place on, without the library."""
+    words = (word for at in itertools.count(place // 16) for word in _block_of(seed, stream, at))
+    return itertools.islice(words, place % 16, None)
 
 
 def ran(*words, **how):
@@ -90,6 +113,12 @@ def release_in(top):
 def files_in(folder):
     """The files in a folder, by their path there, with their bytes."""
     return {str(path.relative_to(folder)): path.read_bytes() for path in folder.rglob("*") if path.is_file()}
+
+
+def in_blocks(run, of):
+    """Has a run make blocks of so many drops, whatever time they take. Returns the run."""
+    run._most, run._pace = of, types.SimpleNamespace(drops=of, note=lambda *_: None)
+    return run
 
 
 def resident():

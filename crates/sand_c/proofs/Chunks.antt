@@ -1,5 +1,5 @@
 -- Lists of n numbers each, one after another.
-use Rattle.sand_c.proofs.Common.{◌≡◌, ◌∙◌, ◌+◌, ◌*◌, ◌<◌, ◌≤◌, ℕ, zero, suc, List, [], ◌∷◌, ◌++◌, length, take, get_or, true, false, inl, inr, ap, arith, subst, Option, Some, None, IfNone, is_some, sum, slice_chunk, cases_lt, and_parts, and_left, and_right, leb-true, lt-leb, length-append, length-drop, length-take-le, take-append-le, drop-append-le, drop_at, take_all, get_or_push, get_or_append_left, most_grains, are_within}
+use Rattle.sand_c.proofs.Common.{◌≡◌, ◌∙◌, ◌+◌, ◌*◌, ◌<◌, ◌≤◌, ℕ, zero, suc, List, [], ◌∷◌, ◌++◌, length, take, get_or, true, false, inl, inr, ap, arith, subst, Option, Some, None, IfNone, is_some, sum, slice_chunk, cases_lt, and_parts, and_left, and_right, leb-true, lt-leb, length-append, length-drop, length-take-le, take-append-le, drop-append-le, drop_at, take_all, get_or_push, get_or_append_left, are_within}
 use Rattle.std.proofs.Common.{drop}
 use Rattle.std.proofs.Math.Nat.{mul-le-mul_right}
 
@@ -37,28 +37,28 @@ module _ (k : ℕ) (xs : List ℕ) where
   number_last y zs len is = ap (λ l. get_or l k 0) is ∙ get_or_push xs y 0 k len
 
 -- each of several piles that are within the limit
-pub each_within : (n : ℕ) (heights : List ℕ) (k : ℕ) → are_within n heights k ≡ true
-    → (j : ℕ) → j < k → sum (slice_chunk heights n j) ≤ most_grains
-each_within n heights zero all j lt = absurd (omega arith)
-each_within n heights (suc k) all j lt =
+pub each_within : (most n : ℕ) (heights : List ℕ) (k : ℕ) → are_within most n heights k ≡ true
+    → (j : ℕ) → j < k → sum (slice_chunk heights n j) ≤ most
+each_within most n heights zero all j lt = absurd (omega arith)
+each_within most n heights (suc k) all j lt =
     let both = and_parts _ _ all in
     elim (cases_lt j k) [
-      | inl earlier ↦ each_within n heights k both.0 j earlier
+      | inl earlier ↦ each_within most n heights k both.0 j earlier
       | inr latest ↦
           let e : j ≡ k = omega arith in
-          rw e (leb-true (sum (slice_chunk heights n k)) most_grains both.1)
+          rw e (leb-true (sum (slice_chunk heights n k)) most both.1)
     ]
 
 -- one that is over the limit
-pub one_over : (n : ℕ) (heights : List ℕ) (k j : ℕ) → j < k → most_grains < sum (slice_chunk heights n j)
-    → are_within n heights k ≡ false
-one_over n heights zero j lt over = absurd (omega arith)
-one_over n heights (suc k) j lt over = elim (cases_lt j k) [
-  | inl earlier ↦ and_left _ _ (one_over n heights k j earlier over)
+pub one_over : (most n : ℕ) (heights : List ℕ) (k j : ℕ) → j < k → most < sum (slice_chunk heights n j)
+    → are_within most n heights k ≡ false
+one_over most n heights zero j lt over = absurd (omega arith)
+one_over most n heights (suc k) j lt over = elim (cases_lt j k) [
+  | inl earlier ↦ and_left _ _ (one_over most n heights k j earlier over)
   | inr latest ↦
       let e : j ≡ k = omega arith in
-      let over_at_k = subst (λ i. most_grains < sum (slice_chunk heights n i)) e over in
-      and_right _ _ (lt-leb (sum (slice_chunk heights n k)) most_grains over_at_k)
+      let over_at_k = subst (λ i. most < sum (slice_chunk heights n i)) e over in
+      and_right _ _ (lt-leb (sum (slice_chunk heights n k)) most over_at_k)
 ]
 
 pub of_none : {A : Type 0} (o : Option A) (P : Type 0) → is_some o ≡ false → IfNone o P → P

@@ -41,7 +41,7 @@ pub use denote.Triple.Clauses.{Lasts, lasts, at_exit}
 pub use denote.Triple.Spec.{triple_of}
 pub use denote.Triple.Table.{framed}
 pub use denote.Triple.Walked.{walk_of, says, ends_at, Stays, stay_dropped, Goes-dropped, gave_ref, gave_slice, Goes-gave_ref, Goes-gave_slice}
-pub use Rattle.sand_model.specs.Piles.{most_grains, PileView, height_of}
+pub use Rattle.sand_model.specs.Piles.{most_grains_on, PileView, height_of}
 pub use Rattle.sand_model.specs.Grid.{Grid, sites}
 pub use Rattle.sand_settle.specs.Settling.{SettledView, IsSettledRecord, odometer_of}
 pub use Rattle.sand_settle.specs.Avalanches.{Avalanche, IsAvalanche}

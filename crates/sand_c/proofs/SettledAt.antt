@@ -1,5 +1,5 @@
 -- What the j-th pile in the arguments settles to.
-use Rattle.sand_c.proofs.Common.{◌≡◌, ◌*◌, ◌<◌, ◌≤◌, ℕ, Bool, true, false, List, length, refl, ap, Ok, Err, if◌then◌else◌, sum, slice_chunk, eq-eqb, le-ltb, Grid, sites, most_grains, edge_of, grid_of, shaped, settling_of, are_within, IsSettlingAt, AreRecords}
+use Rattle.sand_c.proofs.Common.{◌≡◌, ◌*◌, ◌<◌, ◌≤◌, ℕ, Bool, true, false, List, length, refl, ap, Ok, Err, if◌then◌else◌, sum, slice_chunk, eq-eqb, le-ltb, Grid, sites, most_grains_on, edge_of, grid_of, shaped, settling_of, are_within, IsSettlingAt, AreRecords}
 use Rattle.sand_model.specs.declared.shape.Edge.{Edge}
 use Rattle.sand_model.specs.declared.faults.ShapeFault.TheVariants.{Side, Narrow}
 use Rattle.sand_c.specs.declared.arguments.Sides.{Sides}
@@ -21,25 +21,25 @@ sites_are s g is = sides_kept _ _ s.width s.height (edge_of s.cylinder) g is
 
 -- heights and places that suit a grid are a pile on it
 is_meant : (s : Sides) (g : Grid) (heights places : List ℕ) → grid_of s ≡ Ok g
-    → length heights ≡ sites g → length places ≡ sites g → sum heights ≤ most_grains
+    → length heights ≡ sites g → length places ≡ sites g → sum heights ≤ most_grains_on g
     → settling_of s heights places ≡ Ok (record { grid = g; heights = heights })
 is_meant s g heights places grid each place few =
     rw (
       grid,
       eq-eqb (length heights) (sites g) each,
       eq-eqb (length places) (sites g) place,
-      le-ltb most_grains (sum heights) few,
+      le-ltb (most_grains_on g) (sum heights) few,
     ) refl
 
 pub settled_at : (s : Sides) (g : Grid) (heights places : List ℕ) (k : ℕ) (all : SettledPiles)
     → grid_of s ≡ Ok g → length heights ≡ k * sites g → length places ≡ k * sites g
-    → are_within (sites g) heights k ≡ true → AreRecords g heights k all → (j : ℕ) → j < k
+    → are_within (most_grains_on g) (sites g) heights k ≡ true → AreRecords g heights k all → (j : ℕ) → j < k
     → IsSettlingAt j s heights places all.heights.items all.odometer.items all.lost.items all.topplings.items
 settled_at s g heights places k all grid each place within are j lt =
     let n = sites g in
     rw (sites_are s g grid) (record {
       start = record { grid = g; heights = slice_chunk heights n j };
       meant = is_meant s g (slice_chunk heights n j) (slice_chunk places n j) grid
-          (has_n n j k heights each lt) (has_n n j k places place lt) (each_within n heights k within j lt);
+          (has_n n j k heights each lt) (has_n n j k places place lt) (each_within (most_grains_on g) n heights k within j lt);
       settled = are.records j lt;
     })

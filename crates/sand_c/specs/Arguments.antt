@@ -3,8 +3,8 @@ use Rattle.std.specs.Prelude.{ℕ, ◌≡◌, ◌⊎◌, Bool, true, false, ◌=
 use Rattle.sand_model.specs.declared.shape.Edge.{Edge}
 use Rattle.sand_model.specs.declared.shape.Edge.TheVariants.{Open, Cylinder}
 use Rattle.sand_model.specs.declared.faults.ShapeFault.{ShapeFault}
-use Rattle.sand_model.specs.Grid.{Grid, grid_with_edge, sites}
-use Rattle.sand_model.specs.Piles.{PileView, most_grains}
+use Rattle.sand_model.specs.Grid.{Grid, large_grid, sites}
+use Rattle.sand_model.specs.Piles.{PileView, most_grains_on}
 use Rattle.sand_c.specs.declared.arguments.Sides.{Sides}
 use Rattle.sand_c.specs.declared.faults.Fault.{Fault}
 use Rattle.sand_c.specs.declared.faults.Fault.TheVariants.{Length, TooManyGrains, Memory}
@@ -28,7 +28,11 @@ sides_of width height cylinder = record { width = width; height = height; cylind
 
 -- the grid with these sides
 abbrev pub grid_of : Sides → Result Grid Fault
-grid_of s = shaped (grid_with_edge s.width s.height (edge_of s.cylinder))
+grid_of s = shaped (large_grid s.width s.height (edge_of s.cylinder))
+
+-- the most grains of a pile on the grid with these sides
+abbrev pub limit_of : Sides → Result ℕ Fault
+limit_of s = grid_of s >>= λ g. Ok (most_grains_on g)
 
 -- the length of a slice, if it is the expected one
 abbrev pub has_length : ℕ → ℕ → Result ℕ Fault
@@ -37,7 +41,7 @@ has_length expected n = if n == expected then Ok n else Err Length
 -- the pile with these heights on a grid
 abbrev pub pile_on : Grid → List ℕ → Result PileView Fault
 pile_on g heights = if length heights == sites g
-    then (if nat_lt most_grains (sum heights) then Err TooManyGrains else Ok (record { grid = g; heights = heights }))
+    then (if nat_lt (most_grains_on g) (sum heights) then Err TooManyGrains else Ok (record { grid = g; heights = heights }))
     else Err Length
 
 -- the pile with these heights on the grid with these sides

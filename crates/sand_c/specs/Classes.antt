@@ -2,7 +2,7 @@
 use Rattle.std.specs.Prelude.{ℕ, ℤ, pos, ◌≡◌, ◌<◌, ◌⊎◌, nat_lt, if◌then◌else◌, ◌==◌, List, length, Result, Ok, Err}
 use Rattle.sand_model.specs.Grid.{Grid, sites}
 use Rattle.sand_model.specs.Integers.{IsEquivalent}
-use Rattle.sand_model.specs.Piles.{most_grains}
+use Rattle.sand_model.specs.Piles.{most_grains_on}
 use Rattle.sand_group.specs.Classes.{integer_at, whole_grains, IsFired, IsSuperstable}
 use Rattle.sand_group.specs.Recurrence.{IsRecurrent}
 use Rattle.sand_c.specs.declared.arguments.Sides.{Sides}
@@ -13,7 +13,7 @@ use Rattle.sand_c.specs.Arguments.{grid_of, ◌>>=◌}
 -- the grid, if there is one height for each site, and the absolute values are within the limit
 abbrev pub class_on : Grid → List ℤ → Result Grid Fault
 class_on g heights = if length heights == sites g
-    then (if nat_lt most_grains (whole_grains heights) then Err TooManyGrains else Ok g)
+    then (if nat_lt (most_grains_on g) (whole_grains heights) then Err TooManyGrains else Ok g)
     else Err Length
 
 -- the grid of these integer heights

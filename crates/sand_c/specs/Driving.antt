@@ -1,7 +1,7 @@
 -- What the calls on a driven pile do.
 use Rattle.std.specs.Prelude.{ℕ, ◌≡◌, ◌+◌, ◌<◌, ◌⊎◌, slice_index, nat_lt, if◌then◌else◌, ◌==◌, List, [], ◌∷◌, ◌++◌, length, Option, Some, None, Result, Ok, Err}
 use Rattle.sand_model.specs.Grid.{sites}
-use Rattle.sand_model.specs.Piles.{PileView, height_of, most_grains}
+use Rattle.sand_model.specs.Piles.{PileView, height_of, most_grains_on}
 use Rattle.sand_settle.specs.Avalanches.{Avalanche, IsAvalanche}
 use Rattle.sand_settle.specs.Settling.{odometer_of}
 use Rattle.sand_settle.specs.Drops.{DrivenView, grid_of_driven, topplings_between, IsAfter, Drops, AreAvalanches}
@@ -14,7 +14,7 @@ use Rattle.sand_c.specs.Dropping.{are_sites}
 
 -- the pile, if it takes so many more grains
 abbrev pub with_room_for : ℕ → DrivenView → Result DrivenView Fault
-with_room_for count v = if nat_lt most_grains (v.grains + count) then Err Full else Ok v
+with_room_for count v = if nat_lt (most_grains_on (grid_of_driven v)) (v.grains + count) then Err Full else Ok v
 
 -- the pile, if these drops can be made on it, and there is an avalanche for each
 abbrev pub drops_on_drive : DrivenView → List ℕ → ℕ → Result DrivenView Fault

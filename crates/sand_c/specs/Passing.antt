@@ -1,7 +1,7 @@
 -- What the calls on a pass of a shared pile do.
 use Rattle.std.specs.Prelude.{ℕ, ◌≡◌, ◌+◌, ◌-◌, ◌<◌, ◌≤◌, ◌⊎◌, ◌||◌, nat_lt, if◌then◌else◌, List, [], ◌++◌, take, drop, length, sum, Option, Some, Result, Ok, Err}
 use Rattle.sand_model.specs.Grid.{sites}
-use Rattle.sand_model.specs.Piles.{PileView, most_grains}
+use Rattle.sand_model.specs.Piles.{PileView, most_grains_on}
 use Rattle.sand_shared.specs.OpenPile.{grid_of_terms}
 use Rattle.sand_shared.specs.Events.{receipts_from}
 use Rattle.sand_shared.specs.Passes.{PassView, sites_kept, together, IsWhole}
@@ -45,7 +45,7 @@ whole_of v fault = ⊥
 -- the start of a pile, if the quota is within the limit
 abbrev pub with_quota_of : Result PileView Fault → ℕ → Result PileView Fault
 with_quota_of meaning quota =
-    meaning >>= λ p. (if nat_lt most_grains (sum p.heights + quota) then Err TooManyGrains else Ok p)
+    meaning >>= λ p. (if nat_lt (most_grains_on p.grid) (sum p.heights + quota) then Err TooManyGrains else Ok p)
 
 -- the pass, if arrays of these lengths suit its pile and its drops
 abbrev pub record_to : OwnedPassView → ℕ → ℕ → ℕ → Result OwnedPassView Fault

@@ -2,7 +2,7 @@
 use Rattle.std.specs.Prelude.{ℕ, zero, suc, ◌≡◌, ◌*◌, ◌<◌, ◌&&◌, Bool, true, nat_le, if◌then◌else◌, List, length, sum, slice_index, Result, Ok, Err}
 use Rattle.std.specs.Fork.{slice_chunk}
 use Rattle.sand_model.specs.Grid.{Grid, sites}
-use Rattle.sand_model.specs.Piles.{PileView, height_of, most_grains}
+use Rattle.sand_model.specs.Piles.{PileView, height_of, most_grains_on}
 use Rattle.sand_settle.specs.Settling.{IsSettledRecord}
 use Rattle.sand_c.specs.declared.arguments.Sides.{Sides}
 use Rattle.sand_c.specs.declared.faults.Fault.{Fault}
@@ -24,10 +24,10 @@ pub record IsSettling (meaning : Result PileView Fault) (after odometer : List �
     lost = lost;
   })
 
--- whether each of the first k piles of n sites is within the limit
-abbrev pub are_within : ℕ → List ℕ → ℕ → Bool
-are_within n heights zero = true
-are_within n heights (suc k) = are_within n heights k && nat_le (sum (slice_chunk heights n k)) most_grains
+-- whether each of the first k piles of n sites has at most `most` grains
+abbrev pub are_within : ℕ → ℕ → List ℕ → ℕ → Bool
+are_within most n heights zero = true
+are_within most n heights (suc k) = are_within most n heights k && nat_le (sum (slice_chunk heights n k)) most
 
 -- the grid, if there is a pile on it for each place of `lost`, with places for its odometer and its topplings, and each pile
 -- is within the limit
@@ -36,7 +36,7 @@ settling_all_of s heights odometer lost topplings =
     grid_of s >>= λ g. has_length (length lost) (length topplings)
     >>= λ _. has_length (length lost * sites g) (length heights)
     >>= λ _. has_length (length lost * sites g) (length odometer)
-    >>= λ _. (if are_within (sites g) heights (length lost) then Ok g else Err TooManyGrains)
+    >>= λ _. (if are_within (most_grains_on g) (sites g) heights (length lost) then Ok g else Err TooManyGrains)
 
 -- what is written for the j-th pile is what `sandpile_settle` writes for it
 abbrev pub IsSettlingAt : ℕ → Sides → List ℕ → List ℕ → List ℕ → List ℕ → List ℕ → List ℕ → Type 0

@@ -1,12 +1,12 @@
 //! The meaning of a call's arguments.
 
 ghost use Rattle.std.specs.Prelude.{◌≡◌, ◌≢◌, ◌<◌, ◌≤◌, Ok, Err, OnOk, IfOk, IfErr, IfSome, IfNone, length, sum};
-ghost use Rattle.sand_model.specs.Piles.{most_grains};
+ghost use Rattle.sand_model.specs.Piles.{most_grains_on};
 ghost use Rattle.sand_model.specs.Grid.{sites};
 ghost use Rattle.sand_c.specs.Arguments.{sides_of, edge_of, grid_of, pile_of, pile_with, Fails};
 
 use crate::faults::Fault;
-use sand_model::{Edge, GRAIN_LIMIT, Pile, PileFault, Shape, ShapeFault};
+use sand_model::{Edge, Pile, PileFault, Shape, ShapeFault};
 use std::alloc::Global;
 
 /// The sides and the edge of a grid, as a caller gives them.
@@ -37,7 +37,7 @@ fn edge_of(cylinder: bool) -> Edge
 pub(crate) fn grid_of(sides: Sides) -> Result<Shape, Fault>
     ensures { result ≡ grid_of sides }
 {
-    match Shape::with_edge(sides.width, sides.height, edge_of(sides.cylinder)) {
+    match Shape::large(sides.width, sides.height, edge_of(sides.cylinder)) {
         Ok(shape) => Ok(shape),
         Err(ShapeFault::Side) => Err(Fault::Side),
         Err(ShapeFault::Narrow) => Err(Fault::Narrow),
@@ -58,15 +58,15 @@ pub(crate) fn pile_in(alloc: Global, sides: Sides, heights: &[u64]) -> Result<Pi
     }
 }
 
-/// The sum of the heights, if it is within the limit.
-pub(crate) fn grains_of(heights: &[u64]) -> Option<u64>
+/// The sum of the heights, if it is within a limit.
+pub(crate) fn grains_of(heights: &[u64], limit: u64) -> Option<u64>
     ensures sum { IfSome result (λ n. n ≡ sum heights.now) }
-    ensures within { IfSome result (λ n. n ≤ most_grains) }
-    ensures over { IfNone result (most_grains < sum heights.now) }
+    ensures within { IfSome result (λ n. n ≤ limit) }
+    ensures over { IfNone result (limit < sum heights.now) }
 {
     let mut grains: u64 = 0;
     for height in heights {
-        if *height > GRAIN_LIMIT - grains {
+        if *height > limit - grains {
             return None;
         }
         grains += *height;
@@ -81,7 +81,7 @@ pub(crate) fn grid_for(sides: Sides, heights: &[u64], places: usize) -> Result<S
         ≡ Ok (record { grid = g; heights = heights.now })) }
     ensures len { IfOk result (λ g. length heights.now ≡ sites g) }
     ensures places { IfOk result (λ g. places ≡ sites g) }
-    ensures limit { OnOk result (sum heights.now ≤ most_grains) }
+    ensures limit { IfOk result (λ g. sum heights.now ≤ most_grains_on g) }
     ensures fault { IfErr result (λ e. pile_with sides heights.now places ≡ Err e) }
     ensures known { IfErr result (λ e. e ≢ Fault.Memory) }
 {
@@ -89,7 +89,7 @@ pub(crate) fn grid_for(sides: Sides, heights: &[u64], places: usize) -> Result<S
     if heights.len() != shape.sites() || places != shape.sites() {
         return Err(Fault::Length);
     }
-    if grains_of(heights).is_none() {
+    if grains_of(heights, shape.grain_limit()).is_none() {
         return Err(Fault::TooManyGrains);
     }
     Ok(shape)

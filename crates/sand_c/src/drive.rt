@@ -2,25 +2,25 @@
 
 ghost use Rattle.std.specs.Prelude.{◌≡◌, ◌≢◌, ◌+◌, ◌-◌, ◌<◌, ◌≤◌, [], ℕ, All, length, slice_index, IfOk, IfErr, OnOk, OnErr, Ok, Err, IsOk};
 ghost use Rattle.sand_model.specs.Grid.{sites};
-ghost use Rattle.sand_model.specs.Piles.{height_of, most_grains};
+ghost use Rattle.sand_model.specs.Piles.{height_of, most_grains_on};
 ghost use Rattle.sand_settle.specs.Settling.{odometer_of};
 ghost use Rattle.sand_settle.specs.Drops.{grid_of_driven, IsAfter};
-ghost use Rattle.sand_c.specs.Arguments.{Fails};
 ghost use Rattle.sand_c.specs.Driving.{HaveDriven, HasDriven, IsReading, IsSiteOf, drops_on_drive, drop_on_drive, entries_of, with_site};
 ghost use Rattle.sand_c.specs.KeptOdometers.{IsOdometer};
 ghost use Rattle.sand_c.specs.Waves.{HaveDrivenInWaves, waves_on_drive};
 
-use crate::dropping::{are_sites, drop_all};
+use crate::dropping::{are_sites, drop_all, drop_grain};
 use crate::faults::Fault;
-use crate::kept_odometer::{read_odometer, take_topplings};
+use crate::kept_odometer::{keep_odometer, read_odometer, take_topplings};
 use crate::waves::drop_all_in_list;
 use crate::{SandpileAvalanche, SandpileWave};
-use sand_model::{GRAIN_LIMIT, Pile};
+use sand_model::Pile;
 use sand_settle::DrivenPile;
 use std::alloc::{AllocError, Global};
 use std::marker::Model;
 
-/// A driven pile, how many grains it still takes, and an odometer for the topplings of single avalanches.
+/// A driven pile, how many grains it still takes, and what its calls would otherwise allocate: an odometer for the topplings of
+/// single avalanches, and the sizes of the waves of one.
 #[derive(Drop)]
 pub struct Drive {
     pile: DrivenPile,
@@ -29,6 +29,7 @@ pub struct Drive {
     kept: Vec<u64>,
     // Whether no grain has dropped since.
     is_current: bool,
+    sizes: Vec<u64>,
 }
 
 impl Model for Drive {
@@ -39,7 +40,7 @@ impl Model for Drive {
 
     ghost view = { λ d. d.pile };
 
-    ghost invariant = { λ d. IsDrive d.pile d.room d.kept.items d.is_current };
+    ghost invariant = { λ d. IsDrive d.pile d.room d.kept.items d.is_current d.sizes.items };
 }
 
 impl Drive {
@@ -49,13 +50,15 @@ impl Drive {
         let Ok(pile) = DrivenPile::new(alloc, start) else {
             return Err(AllocError);
         };
-        let room = GRAIN_LIMIT - start.grains();
+        let room = start.shape().grain_limit() - start.grains();
         let kept = vec![in alloc; 0; pile.shape().sites()]?;
+        let sizes = vec![in alloc; 0; pile.shape().most_to_edge()]?;
         Ok(Drive {
             pile,
             room,
             kept,
             is_current: false,
+            sizes,
         })
     }
 
@@ -71,7 +74,7 @@ impl Drive {
         ensures may { OnOk result (drops_on_drive self.now drops.now avalanches ≡ Ok self.now) }
         ensures avalanches { OnOk result (avalanches ≡ length drops.now) }
         ensures sites { OnOk result (All (λ site. site < sites (grid_of_driven self.now)) drops.now) }
-        ensures room { OnOk result (self.now.grains + length drops.now ≤ most_grains) }
+        ensures room { OnOk result (self.now.grains + length drops.now ≤ most_grains_on (grid_of_driven self.now)) }
         ensures fault { IfErr result (λ e. drops_on_drive self.now drops.now avalanches ≡ Err e) }
     {
         if avalanches != drops.len() {
@@ -89,21 +92,19 @@ impl Drive {
     /// Drops a grain at each site in turn, and writes the avalanches.
     pub(crate) fn drop_each(
         &mut self,
-        alloc: Global,
         drops: &[usize],
         avalanches: &mut [SandpileAvalanche],
     ) -> Result<(), Fault>
         ensures driven { OnOk result (HaveDriven self.old drops.now avalanches.new self.new) }
         ensures may { OnOk result (drops_on_drive self.old drops.now (length avalanches.old) ≡ Ok self.old) }
-        ensures fault { IfErr result (λ e. Fails e (drops_on_drive self.old drops.now (length avalanches.old))) }
+        ensures fault { IfErr result (λ e. drops_on_drive self.old drops.now (length avalanches.old) ≡ Err e) }
         ensures unchanged { OnErr result (self.new ≡ self.old) }
         ensures avalanches { OnErr result (avalanches.new ≡ avalanches.old) }
     {
         self.may_drop(drops, avalanches.len())?;
-        let rows = drop_all(alloc, &mut self.pile, drops)?;
+        drop_all(&mut self.pile, drops, avalanches);
         self.room -= drops.len() as u64;
         self.is_current = false;
-        avalanches.copy_from_slice(rows.as_slice());
         Ok(())
     }
 
@@ -132,7 +133,7 @@ impl Drive {
             return Err(Fault::Length);
         }
         self.may_drop(drops, avalanches.len())?;
-        let count = drop_all_in_list(&mut self.pile, drops, avalanches, waves);
+        let count = drop_all_in_list(&mut self.pile, drops, avalanches, &mut self.sizes, waves);
         self.room -= drops.len() as u64;
         self.is_current = false;
         Ok(count)
@@ -233,10 +234,8 @@ impl Drive {
         if self.room == 0 {
             return Err(Fault::Full);
         }
-        if !self.is_current {
-            read_odometer(&self.pile, &mut self.kept);
-        }
-        let (_, caused) = self.pile.drop_at(site).unwrap();
+        keep_odometer(&self.pile, &mut self.kept, self.is_current);
+        let caused = drop_grain(&mut self.pile, site);
         self.room -= 1;
         self.is_current = true;
         let reach = caused.reach as usize;

@@ -55,8 +55,8 @@ pub extern "C" fn sandpile_drive_new(
 }
 
 /// Drops a grain at each site in turn; each settles before the next. Writes the avalanche of each drop. Returns 0, or
-/// the first of 26 (Empty), 2 (Length of the avalanches), 25 (NoSite) and 6 (Full), or 4 (Memory).
-#[tactic(auto, using(crate::proofs::Answered::answered))]
+/// the first of 26 (Empty), 2 (Length of the avalanches), 25 (NoSite) and 6 (Full).
+#[tactic(auto, using(crate::proofs::Answered::returned))]
 #[unsafe(no_mangle)]
 pub extern "C" fn sandpile_drive_drop(
     alloc: Global,
@@ -66,15 +66,14 @@ pub extern "C" fn sandpile_drive_drop(
 ) -> u32
     ensures driven { result ≡ 0
         → LeadsTo drive.old.held (λ v w. HaveDriven v drops.now avalanches.new w) drive.new.held }
-    ensures answer { Answers result
-        (driving_of drive.old.held drops.now (length avalanches.old)) }
+    ensures answer { Returns result (driving_of drive.old.held drops.now (length avalanches.old)) }
     ensures drive { result ≢ 0 → drive.new.held ≡ drive.old.held }
     ensures avalanches { result ≢ 0 → avalanches.new ≡ avalanches.old }
 {
     let Some(mut held) = drive.take(alloc) else {
         return Fault::Empty.number();
     };
-    let driven = held.drop_each(alloc, drops, avalanches);
+    let driven = held.drop_each(drops, avalanches);
     drive.put(held);
     answer(driven)
 }

@@ -11,7 +11,7 @@ use std::alloc::{AllocError, AllocFailed};
 /// Why a call failed.
 #[derive(Clone, Copy)]
 pub enum Fault {
-    /// A side is outside 1 to 256.
+    /// A side is outside 1 to 8192.
     Side,
     /// A slice has the wrong length.
     Length,

@@ -2,7 +2,7 @@
 
 ghost use Rattle.std.specs.Prelude.{◌≡◌, ◌≢◌, ◌≤◌, ◌↔◌, length, sum, Ok, IfOk, IfErr, OnErr, IsOk};
 ghost use Rattle.sand_model.specs.Grid.{sites};
-ghost use Rattle.sand_model.specs.Piles.{height_of, most_grains};
+ghost use Rattle.sand_model.specs.Piles.{height_of, most_grains_on};
 ghost use Rattle.sand_group.specs.Recurrence.{IsRecurrent};
 ghost use Rattle.sand_c.specs.Arguments.{sides_of, pile_of, Answers, IsAnswer};
 ghost use Rattle.sand_c.specs.Faults.{number_of, of_group};
@@ -18,7 +18,7 @@ use std::alloc::Global;
 #[tactic(auto, using(crate::proofs::Unfit::unfit, crate::proofs::Unfit::out_of_memory))]
 pub(crate) fn recurrent_on(alloc: Global, shape: Shape, heights: &[u64]) -> Result<Recurrent, Fault>
     requires len { length heights.now ≡ sites shape }
-    requires limit { sum heights.now ≤ most_grains }
+    requires limit { sum heights.now ≤ most_grains_on shape }
     ensures made { IfOk result (λ c. c ≡ record { grid = shape; heights = heights.now }) }
     ensures recurrent { IfOk result (λ c. IsRecurrent c.grid (height_of c)) }
     ensures unfit { IfErr result (λ e. IsUnfit (record { grid = shape; heights = heights.now }) e) }
@@ -40,7 +40,7 @@ fn element_of(alloc: Global, sides: Sides, heights: &[u64]) -> Result<Recurrent,
     if heights.len() != shape.sites() {
         return Err(Fault::Length);
     }
-    if grains_of(heights).is_none() {
+    if grains_of(heights, shape.grain_limit()).is_none() {
         return Err(Fault::TooManyGrains);
     }
     recurrent_on(alloc, shape, heights)
@@ -61,7 +61,7 @@ fn elements_of(
     ensures fault { IfErr result (λ e. AddFails e (adding_of sides heights.now others.now)) }
 {
     let shape = grid_for(sides, heights, others.len())?;
-    if grains_of(others).is_none() {
+    if grains_of(others, shape.grain_limit()).is_none() {
         return Err(Fault::TooManyGrains);
     }
     let first = recurrent_on(alloc, shape, heights)?;

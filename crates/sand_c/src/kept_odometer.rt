@@ -4,7 +4,7 @@
 //! Sites farther from the drop than the reach of the avalanche have not toppled. So only the others are read, and
 //! brought up to date: an avalanche that stays near its drop is fast to read on a large grid, too.
 
-ghost use Rattle.std.specs.Prelude.{◌≡◌, ℕ, ◌-◌, ◌^◌, ◌<◌, ◌≤◌, length, slice_index};
+ghost use Rattle.std.specs.Prelude.{◌≡◌, ℕ, ◌-◌, ◌^◌, ◌<◌, ◌≤◌, length, slice_index, IsTrue};
 ghost use Rattle.sand_model.specs.Grid.{sites, distance};
 ghost use Rattle.sand_settle.specs.Settling.{odometer_of};
 ghost use Rattle.sand_settle.specs.Drops.{grid_of_driven};
@@ -18,6 +18,17 @@ pub(crate) fn read_odometer(pile: &DrivenPile, odometer: &mut [u64])
     ensures { IsOdometer odometer.new pile.now }
 {
     pile.read_odometer(odometer);
+}
+
+/// Brings a kept odometer up to date, unless it is current.
+pub(crate) fn keep_odometer(pile: &DrivenPile, kept: &mut [u64], is_current: bool)
+    requires len { length kept.old ≡ sites (grid_of_driven pile.now) }
+    requires current { IsTrue is_current → IsOdometer kept.old pile.now }
+    ensures { IsOdometer kept.new pile.now }
+{
+    if !is_current {
+        read_odometer(pile, kept);
+    }
 }
 
 /// Writes how often each site has toppled since the odometer was kept, and brings that up to date. Only sites within the

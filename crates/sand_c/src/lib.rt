@@ -18,6 +18,7 @@ mod group;
 mod holding;
 mod kept_odometer;
 mod lent;
+mod limit;
 mod owned_pass;
 mod parts;
 mod pass_handle;
@@ -41,6 +42,7 @@ pub use group::{
     sandpile_add, sandpile_identity, sandpile_inverse, sandpile_multiple, sandpile_recurrent,
 };
 pub use holding::SandpileHolding;
+pub use limit::sandpile_grain_limit;
 pub use pass_handle::SandpilePass;
 pub use passing::{
     sandpile_pass_drop, sandpile_pass_free, sandpile_pass_join, sandpile_pass_settle,

@@ -4,7 +4,7 @@
 //! owners of the pile. The pile is freed with the last of its passes.
 
 ghost use Rattle.std.specs.Prelude.{◌≡◌, ◌+◌, ◌<◌, ◌↔◌, ◌⊎◌, length, sum, IfOk, IfErr, OnOk, OnErr, Ok, Err, IsTrue};
-ghost use Rattle.sand_model.specs.Piles.{most_grains};
+ghost use Rattle.sand_model.specs.Piles.{most_grains_on};
 ghost use Rattle.sand_shared.specs.Passes.{IsPassOf};
 ghost use Rattle.sand_shared.specs.Rows.{AreApart};
 ghost use Rattle.sand_c.specs.OwnedPasses.{IsFirst};
@@ -58,7 +58,7 @@ fn are_apart(rows: (u16, u16), others: (u16, u16)) -> bool
 impl OwnedPass {
     /// The first pass of a new pile.
     pub(crate) fn first(alloc: Global, start: &Pile, quota: u64) -> Result<OwnedPass, Fault>
-        ensures limit { (result ≡ Err Fault.TooManyGrains) ↔ (most_grains < sum start.now.heights + quota) }
+        ensures limit { (result ≡ Err Fault.TooManyGrains) ↔ (most_grains_on start.now.grid < sum start.now.heights + quota) }
         ensures other { IfErr result (λ e. (e ≡ Fault.TooManyGrains) ⊎ (e ≡ Fault.Memory)) }
         ensures first { IfOk result (IsFirst start.now quota) }
     {

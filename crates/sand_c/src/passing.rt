@@ -11,7 +11,7 @@ use crate::arguments::{Sides, grains_of, grid_of, sides_of};
 use crate::faults::Fault;
 use crate::owned_pass::OwnedPass;
 use crate::pass_handle::SandpilePass;
-use sand_model::{GRAIN_LIMIT, Pile};
+use sand_model::Pile;
 use std::alloc::Global;
 
 // The first pass of a shared pile with the start in the arguments, in a block of its own.
@@ -29,10 +29,11 @@ fn first_of(
     if heights.len() != shape.sites() {
         return Err(Fault::Length);
     }
-    let Some(grains) = grains_of(heights) else {
+    let limit = shape.grain_limit();
+    let Some(grains) = grains_of(heights, limit) else {
         return Err(Fault::TooManyGrains);
     };
-    if quota > GRAIN_LIMIT - grains {
+    if quota > limit - grains {
         return Err(Fault::TooManyGrains);
     }
     // All other faults are ruled out.

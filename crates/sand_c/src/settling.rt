@@ -7,6 +7,7 @@ ghost use Rattle.std.specs.Prelude.{◌≡◌, ◌≢◌, ◌+◌, ◌*◌, ◌<
 ghost use Rattle.std.specs.Fork.{slice_chunk};
 ghost use Rattle.sand_model.specs.Grid.{sites};
 ghost use Rattle.sand_c.specs.Arguments.{sides_of, grid_of, Fails, Answers};
+ghost use Rattle.sand_model.specs.Piles.{most_grains_on};
 ghost use Rattle.sand_c.specs.Settling.{settling_of, settling_all_of, are_within, IsSettling, IsSettlingAt, AreRecords};
 
 use crate::arguments::{Sides, grains_of, grid_for, grid_of, sides_of};
@@ -70,13 +71,13 @@ fn heights_at(heights: &[u64], sites: usize, pile: usize) -> &[u64]
     heights.split_at(pile * sites).1.split_at(sites).0
 }
 
-// Whether each pile is within the limit.
-fn are_within(heights: &[u64], sites: usize, count: usize) -> bool
+// Whether each pile is within a limit.
+fn are_within(heights: &[u64], sites: usize, limit: u64, count: usize) -> bool
     requires { length heights.now ≡ count * sites }
-    ensures { result ≡ are_within sites heights.now count }
+    ensures { result ≡ are_within limit sites heights.now count }
 {
     for pile in 0..count {
-        if grains_of(heights_at(heights, sites, pile)).is_none() {
+        if grains_of(heights_at(heights, sites, pile), limit).is_none() {
             return false;
         }
     }
@@ -95,7 +96,7 @@ fn grid_for_all(
     ensures meant { IfOk result
         (λ g. settling_all_of sides heights.now odometer.now lost.now topplings.now ≡ Ok g) }
     ensures grid { IfOk result (λ g. grid_of sides ≡ Ok g) }
-    ensures within { IfOk result (λ g. are_within (sites g) heights.now (length lost.now) ≡ true) }
+    ensures within { IfOk result (λ g. are_within (most_grains_on g) (sites g) heights.now (length lost.now) ≡ true) }
     ensures heights { IfOk result (λ g. length heights.now ≡ length lost.now * sites g) }
     ensures odometer { IfOk result (λ g. length odometer.now ≡ length lost.now * sites g) }
     ensures topplings { OnOk result (length topplings.now ≡ length lost.now) }
@@ -110,7 +111,7 @@ fn grid_for_all(
     if all != Some(heights.len()) || all != Some(odometer.len()) {
         return Err(Fault::Length);
     }
-    if !are_within(heights, shape.sites(), lost.len()) {
+    if !are_within(heights, shape.sites(), shape.grain_limit(), lost.len()) {
         return Err(Fault::TooManyGrains);
     }
     Ok(shape)
@@ -124,7 +125,7 @@ fn settle_each(
     count: usize,
 ) -> Result<SettledPiles, AllocError>
     requires len { length heights.now ≡ count * sites shape }
-    requires within { are_within (sites shape) heights.now count ≡ true }
+    requires within { are_within (most_grains_on shape) (sites shape) heights.now count ≡ true }
     ensures { IfOk result (AreRecords shape heights.now count) }
 {
     let sites = shape.sites();

@@ -3,7 +3,7 @@
 ghost use Rattle.std.specs.Prelude.{◌≡◌, ◌+◌, ◌*◌, ◌<◌, ◌≤◌, ◌++◌, ℕ, All, length, take, drop};
 ghost use Rattle.sand_model.specs.Grid.{sites};
 ghost use Rattle.sand_model.specs.Edges.{most_to_edge};
-ghost use Rattle.sand_model.specs.Piles.{most_grains};
+ghost use Rattle.sand_model.specs.Piles.{most_grains_on};
 ghost use Rattle.sand_settle.specs.Drops.{grid_of_driven};
 ghost use Rattle.sand_settle.specs.Waves.{HasDropped};
 ghost use Rattle.sand_c.specs.Waves.{waves_from, AreWavesOf, HaveDrivenInWaves};
@@ -46,7 +46,7 @@ fn drop_in_list(
     waves: &mut [SandpileWave],
 ) -> (SandpileAvalanche, usize)
     requires site { site < sites (grid_of_driven pile.old) }
-    requires room { pile.old.grains < most_grains }
+    requires room { pile.old.grains < most_grains_on (grid_of_driven pile.old) }
     requires sizes { most_to_edge (grid_of_driven pile.old) ≤ length sizes.old }
     requires waves { most_to_edge (grid_of_driven pile.old) ≤ length waves.old }
     ensures dropped { HasDropped pile.old site pile.old.number result.0 pile.new }
@@ -62,28 +62,28 @@ fn drop_in_list(
 }
 
 /// Drops a grain at each site in turn. Writes the avalanches, and the waves of each drop after those before. Returns how many
-/// waves there are.
+/// waves there are. The sizes are overwritten.
 pub(crate) fn drop_all_in_list(
     pile: &mut DrivenPile,
     drops: &[usize],
     avalanches: &mut [SandpileAvalanche],
+    sizes: &mut [u64],
     waves: &mut [SandpileWave],
 ) -> usize
     requires sites { All (λ site. site < sites (grid_of_driven pile.old)) drops.now }
-    requires room { pile.old.grains + length drops.now ≤ most_grains }
+    requires room { pile.old.grains + length drops.now ≤ most_grains_on (grid_of_driven pile.old) }
     requires avalanches { length avalanches.old ≡ length drops.now }
+    requires sizes { most_to_edge (grid_of_driven pile.old) ≤ length sizes.old }
     requires waves { length drops.now * most_to_edge (grid_of_driven pile.old) ≤ length waves.old }
     ensures driven { HaveDrivenInWaves pile.old drops.now avalanches.new waves.old waves.new result pile.new }
     ensures grains { pile.new.grains ≡ pile.old.grains + length drops.now }
     ensures grid { grid_of_driven pile.new ≡ grid_of_driven pile.old }
+    ensures len { length sizes.new ≡ length sizes.old }
 {
-    // For the proof: no site of a grid is farther than 128 from the nearest open edge.
-    let _ = pile.shape();
-    let mut sizes = [0u64; 128];
     let mut count = 0;
     for next in 0..drops.len() {
         let (_, rest) = waves.split_at_mut(count);
-        let (avalanche, more) = drop_in_list(pile, drops[next], &mut sizes, rest);
+        let (avalanche, more) = drop_in_list(pile, drops[next], sizes, rest);
         avalanches[next] = avalanche;
         count += more;
     }

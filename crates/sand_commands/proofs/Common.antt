@@ -7,7 +7,7 @@ pub use Rattle.std.specs.List.{prefix_len, range_with_len, flat_map}
 pub use Rattle.std.proofs.lemmas.Bool.{cases_Bool, cases_lt, leb-false, lt-ltb}
 pub use Rattle.std.proofs.lemmas.Result.{err_from_is_err_and, IfErr-weaker, IfOk-weaker}
 pub use Rattle.sand_model.specs.Grid.{sites, Grid, distance}
-pub use Rattle.sand_model.specs.Piles.{PileView, most_grains, height_of}
+pub use Rattle.sand_model.specs.Piles.{PileView, most_grains_on, height_of}
 pub use Rattle.sand_text.specs.declared.fault.TextFault.{TextFault}
 pub use Rattle.sand_text.specs.Reading.{pile_of, ◌>>=◌, front_of, sites_among, unless_at}
 pub use Rattle.sand_cli.specs.declared.task.Draw.{Draw}
@@ -19,7 +19,7 @@ pub use Rattle.sand_text.specs.declared.fault.StreamFault.{StreamFault}
 pub use Rattle.sand_cli.specs.declared.task.Part.{Part}
 pub use Rattle.sand_settle.specs.Settling.{SettledView, odometer_of}
 pub use Rattle.sand_settle.proofs.Drops.{after_drop, avalanche_same, avalanches_join, one_for_each}
-pub use Rattle.sand_commands.specs.Commands.{Finds, IsDropsFault, IsWritten, WorkEnds, IsSumFault, IsFaultWithoutLab, IsTextWithoutLab}
+pub use Rattle.sand_commands.specs.Commands.{Finds, IsDropsFault, IsWritten, WorkEnds, IsElementFault, IsSumFault, IsFaultWithoutLab, IsTextWithoutLab}
 pub use Rattle.sand_commands.specs.DropsCommand.{IsOverfull, drawn_sites, with_draw, numbered, AreRows, IsDropsText, drops_in, AreNoted, is_pile}
 pub use Rattle.sand_commands.specs.Faults.{of_text, of_stream, number_of, of_shape, of_one, of_group, of_read, of_words, KeepNumbers}
 pub use Rattle.sand_commands.specs.Streaming.{AreAdded, BreaksInRows, end_in, head_in, rows_in, pile_and_sums, row_in}

@@ -1,5 +1,5 @@
 -- The faults of `drops --count`: the pile cannot be read, or there is no room for all drops.
-use Rattle.sand_commands.proofs.Common.{◌≡◌, ◌+◌, ◌<◌, ℕ, List, refl, sym, ap, subst, arith, length, sum, Some, Ok, Err, sites, PileView, most_grains, TextFault, pile_of, ◌>>=◌, Draw, DeskFault, Finds, IsDropsFault, IsOverfull, drawn_sites, with_draw, of_text}
+use Rattle.sand_commands.proofs.Common.{◌≡◌, ◌+◌, ◌<◌, ℕ, List, refl, sym, ap, subst, arith, length, sum, Some, Ok, Err, sites, PileView, most_grains_on, TextFault, pile_of, ◌>>=◌, Draw, DeskFault, Finds, IsDropsFault, IsOverfull, drawn_sites, with_draw, of_text}
 use Rattle.sand_text.specs.declared.fault.TextFault.TheVariants as text
 use Rattle.sand_commands.specs.declared.faults.DeskFault.TheVariants as desk
 use Rattle.sand_commands.specs.Answers.{Fails}
@@ -48,7 +48,7 @@ unread draw input (desk.NoSite index) (why, e, is) = by_why draw input (desk.NoS
 
 -- if the grains and drops exceed the limit, there is no room for all drops
 pub overfull : (draw : Draw) (input : List ℕ) (start : PileView)
-    → pile_of input ≡ Ok start → most_grains < sum start.heights + draw.count
+    → pile_of input ≡ Ok start → most_grains_on start.grid < sum start.heights + draw.count
     → IsOverfull (Some draw) input
 overfull draw input start read over =
     let drawn = drawn_sites (sites start.grid) draw in

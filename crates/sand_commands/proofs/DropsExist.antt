@@ -1,5 +1,5 @@
 -- On a settled pile grains can drop at any sites, within the grain limit: each settles and causes an avalanche.
-use Rattle.sand_commands.proofs.Common.{ℕ, zero, suc, ◌≡◌, ◌+◌, ◌-◌, ◌<◌, ◌≤◌, refl, sym, ap, ◌∙◌, subst, arith, List, [], ◌∷◌, ◌++◌, All, map, length, sum, get_or, append_assoc, append-nil, ⊎_elim, range_with_len, cases_lt, get_or_past, length-append, All-head, All-tail, Grid, sites, distance, PileView, most_grains, Avalanche, area_of, IsAvalanche, DrivenView, IsAfter, Drops, TakesGrain, grid_of_driven, topplings_between, HasAvalanche, SettledView, odometer_of, after_drop, AreRows}
+use Rattle.sand_commands.proofs.Common.{ℕ, zero, suc, ◌≡◌, ◌+◌, ◌-◌, ◌<◌, ◌≤◌, refl, sym, ap, ◌∙◌, subst, arith, List, [], ◌∷◌, ◌++◌, All, map, length, sum, get_or, append_assoc, append-nil, ⊎_elim, range_with_len, cases_lt, get_or_past, length-append, All-head, All-tail, Grid, sites, distance, PileView, most_grains_on, Avalanche, area_of, IsAvalanche, DrivenView, IsAfter, Drops, TakesGrain, grid_of_driven, topplings_between, HasAvalanche, SettledView, odometer_of, after_drop, AreRows}
 use Rattle.std.proofs.lemmas.List.FromFn.{length-map-range_with_len, get_or-map-range_with_len}
 use Rattle.sand_model.specs.Sand.{one_at, topplings, lost, IsSettled}
 use Rattle.sand_model.proofs.EachSettles.{settles}
@@ -122,7 +122,7 @@ record DropsOn (v : DrivenView) (site : ℕ) : Type 0 where
 
 drop_exists : (v : DrivenView) (site : ℕ)
     → length v.settled.odometer ≡ sites (grid_of_driven v)
-    → site < sites (grid_of_driven v) → v.grains < most_grains → DropsOn v site
+    → site < sites (grid_of_driven v) → v.grains < most_grains_on (grid_of_driven v) → DropsOn v site
 drop_exists v site each inside room =
     let r : SettledView = v.settled in
     let done = settles r.pile.grid (λ j. get_or r.pile.heights j 0 + one_at site j) in
@@ -153,7 +153,7 @@ pub record Continues (start : PileView) (past : List ℕ) (n : ℕ) (v : DrivenV
 -- for any stable pile and any list of sites within the grain limit, the drops and avalanches exist
 pub drops_exist : (start : PileView) (past more : List ℕ) (n : ℕ) (v : DrivenView)
     → IsAfter start past v → All (λ j. j < sites start.grid) more
-    → sum start.heights + (length past + length more) ≤ most_grains → Continues start past n v more
+    → sum start.heights + (length past + length more) ≤ most_grains_on start.grid → Continues start past n v more
 drops_exist start past [] n v after inside few =
     let P : List ℕ → Type 0 = λ history. IsAfter start history v in
     record {
@@ -166,7 +166,7 @@ drops_exist start past (site ∷ more) n v after inside few =
     let grid = ap sites after.settled.grid in
     let first = drop_exists v site (after.settled.odometer_each ∙ sym grid)
     (let l = All-head (λ j. j < sites start.grid) site more inside in omega (arith, l, grid))
-    (let grains = after.grains in omega (arith, grains, few)) in
+    (let grains = after.grains in omega (arith, grains, few, ap most_grains_on after.settled.grid)) in
     let next = after_drop start past site v first.after first.has.drops after in
     let longer = length-append past (site ∷ []) in
     let rest = drops_exist start (past ++ site ∷ []) more (n + 1) first.after next

@@ -1,5 +1,5 @@
 -- The text of drops at random, as a row is added or the writer fails in one.
-use Rattle.sand_commands.proofs.Common.{◌≡◌, ◌∙◌, ◌+◌, ◌<◌, ◌≤◌, ℕ, suc, List, [], ◌∷◌, ◌++◌, All, codes, length, sum, refl, sym, ap, subst, arith, append_assoc, append-nil, Option, length-append, sites, PileView, most_grains, Avalanche, IsAvalanche, SettledView, DrivenView, IsAfter, Drops, grid_of_driven, topplings_between, after_drop, breaks_within, grows_on, stays, StreamFault, Part, AreRows, drops_in, of_stream, AreAdded, BreaksInRows, end_in, head_in, pile_and_sums, row_in, rows_in}
+use Rattle.sand_commands.proofs.Common.{◌≡◌, ◌∙◌, ◌+◌, ◌<◌, ◌≤◌, ℕ, suc, List, [], ◌∷◌, ◌++◌, All, codes, length, sum, refl, sym, ap, subst, arith, append_assoc, append-nil, Option, length-append, sites, PileView, most_grains_on, Avalanche, IsAvalanche, SettledView, DrivenView, IsAfter, Drops, grid_of_driven, topplings_between, after_drop, breaks_within, grows_on, stays, StreamFault, Part, AreRows, drops_in, of_stream, AreAdded, BreaksInRows, end_in, head_in, pile_and_sums, row_in, rows_in}
 use Rattle.sand_text.specs.Blocks.{BreaksIn, GrowsBy, Waiting}
 use Rattle.sand_text.specs.Tables.{entries_text, entry_text, table_head}
 use Rattle.sand_text.specs.Texts.{sum_line, text_of}
@@ -88,7 +88,7 @@ pub broke_in_row : (start : PileView) (part : Part) (n m : ℕ) (v w u : DrivenV
     → IsAvalanche (grid_of_driven w) site (topplings_between w.settled u.settled) a
     → BreaksIn mid held' c (row_in part (m, a)) why
     → All (λ j. j < sites start.grid) later
-    → sum start.heights + (length before + suc (length later)) ≤ most_grains
+    → sum start.heights + (length before + suc (length later)) ≤ most_grains_on start.grid
     → BreaksInRows start part n v (before ++ site ∷ later) held held' b (of_stream why)
 broke_in_row start part n m v w u before site later a held mid
     held' b c why number added after drop is broken inside few =

@@ -2,8 +2,8 @@
 use Rattle.std.specs.Prelude.{ℕ, ◌≡◌, ◌⊎◌, ◌<◌, ◌≤◌, Bool, true, false, List, [], length, take, Option, Some, Result, Err}
 use Rattle.std.specs.Io.KnownBytes.{Appends, Keeps}
 use Rattle.sand_model.specs.declared.faults.ShapeFault.{ShapeFault}
-use Rattle.sand_model.specs.Grid.{grid_with_edge}
-use Rattle.sand_model.specs.Piles.{most_grains}
+use Rattle.sand_model.specs.Grid.{Grid, grid_with_edge}
+use Rattle.sand_model.specs.Piles.{most_grains_on}
 use Rattle.sand_group.specs.declared.faults.GroupFault.TheVariants as group
 use Rattle.sand_text.specs.declared.fault.TextFault.{TextFault}
 use Rattle.sand_text.specs.Flow.{GivesAll}
@@ -50,11 +50,11 @@ pub record IsUnreadable {A : Type 0} (reading : Result A TextFault) (fault : Des
   pub read : reading ≡ Err why
   pub told : fault ≡ of_text why
 
--- dropping failed: the pile and all drops exceed the grain limit, or memory ran out
-abbrev pub IsDropFault : ℕ → DeskFault → Type 0
-IsDropFault grains desk.Full = most_grains < grains
-IsDropFault grains desk.Memory = Unit {0}
-IsDropFault grains fault = ⊥
+-- dropping failed: the pile and all drops exceed the grain limit of the grid, or memory ran out
+abbrev pub IsDropFault : Grid → ℕ → DeskFault → Type 0
+IsDropFault g grains desk.Full = most_grains_on g < grains
+IsDropFault g grains desk.Memory = Unit {0}
+IsDropFault g grains fault = ⊥
 
 abbrev pub IsDropsFault : Option Draw → List ℕ → DeskFault → Type 0
 IsDropsFault drawn input desk.Full = IsOverfull drawn input

@@ -1,6 +1,6 @@
 -- What `drops` writes.
 use Rattle.std.specs.Prelude.{ℕ, ◌≡◌, ◌+◌, ◌<◌, Bool, true, false, if◌then◌else◌, List, [], ◌∷◌, ◌++◌, length, drop, sum, codes, Option, Some, None, Result, Ok}
-use Rattle.sand_model.specs.Piles.{PileView, most_grains}
+use Rattle.sand_model.specs.Piles.{PileView, most_grains_on}
 use Rattle.sand_settle.specs.Avalanches.{Avalanche}
 use Rattle.sand_settle.specs.Settling.{SettledView}
 use Rattle.sand_settle.specs.Drops.{DrivenView, IsAfter, AreAvalanches}
@@ -75,9 +75,9 @@ pub record IsDropsText (drawn : Option Draw) (part : Part) (input text : List �
   pub end : IsAfter pile sites last
   pub written : text ≡ drops_in part rows last.settled
 
--- the pile and the drops exceed the grain limit
+-- the pile and the drops exceed the grain limit of the grid
 pub record IsOverfull (drawn : Option Draw) (input : List ℕ) : Type 0 where
   pub pile : PileView
   pub sites : List ℕ
   pub read : drops_for drawn input ≡ Ok (pile, sites)
-  pub over : most_grains < sum pile.heights + length sites
+  pub over : most_grains_on pile.grid < sum pile.heights + length sites

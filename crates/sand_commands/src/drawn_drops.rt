@@ -6,7 +6,7 @@
 
 ghost use Rattle.std.specs.Prelude.{◌≡◌, ◌+◌, ◌≤◌, [], Some, IfErr, OnOk};
 ghost use Rattle.sand_model.specs.Grid.{sites};
-ghost use Rattle.sand_model.specs.Piles.{PileView, most_grains};
+ghost use Rattle.sand_model.specs.Piles.{PileView, most_grains_on};
 ghost use Rattle.sand_settle.specs.Drops.{grid_of_driven, IsAfter};
 ghost use Rattle.sand_text.specs.Blocks.{BreaksIn, GrowsBy};
 ghost use Rattle.sand_cli.specs.Asked.{IsDraw};
@@ -17,7 +17,6 @@ ghost use Rattle.sand_commands.specs.Streaming.{AreAdded, BreaksInRows, end_in, 
 use crate::faults::DeskFault;
 use crate::texts::read_pile;
 use sand_cli::{Draw, Part};
-use sand_model::GRAIN_LIMIT;
 use sand_plan::{Gate, Role};
 use sand_settle::{Avalanche, DrivenPile, Settled};
 use sand_streams::SiteReader;
@@ -64,7 +63,7 @@ fn drop_drawn<G: Gate, W: Write>(
     writer: &mut W,
 ) -> Result<(), DeskFault>
     requires draw { IsDraw draw }
-    requires room { pile.old.grains + draw.count ≤ most_grains }
+    requires room { pile.old.grains + draw.count ≤ most_grains_on (grid_of_driven pile.old) }
     ensures rows { OnOk result (AreAdded part draw.from pile.old
         (drawn_sites (sites (grid_of_driven pile.old)) draw) pile.new
         (W.contents writer.old) (W.contents writer.new) blocks.old blocks.new) }
@@ -135,7 +134,8 @@ pub(crate) fn drawn_drops<G: Gate, W: Write>(
         (W.contents writer.old) (W.contents writer.new)) }
 {
     let start = read_pile(alloc, input)?;
-    if u64::from(draw.count) > GRAIN_LIMIT - start.grains() {
+    let room = start.shape().grain_limit() - start.grains();
+    if u64::from(draw.count) > room {
         return Err(DeskFault::Full);
     }
     let mut blocks = Blocks::new(alloc, head_of(part))?;

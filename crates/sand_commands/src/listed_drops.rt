@@ -54,7 +54,7 @@ fn drop_all(
     requires { All (λ site. site < sites (grid_of_driven pile.old)) drops.now }
     ensures rows { IfOk result (λ rows. AreNoted alone pile.old drops.now rows.items pile.new) }
     ensures after { OnOk result ((start : PileView) → IsAfter start [] pile.old → IsAfter start drops.now pile.new) }
-    ensures fault { IfErr result (IsDropFault (pile.old.grains + length drops.now)) }
+    ensures fault { IfErr result (IsDropFault (grid_of_driven pile.old) (pile.old.grains + length drops.now)) }
 {
     let mut rows = list_of_rows(alloc, drops.len(), alone)?;
     for site in drops {

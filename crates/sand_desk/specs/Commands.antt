@@ -1,7 +1,8 @@
 -- What a command does: the text that it writes for an input, the fault that it finds in it, and how it ends.
 use Rattle.std.specs.Prelude.{ℕ, ⊤, ◌≡◌, ◌↔◌, ◌⊎◌, ◌+◌, ◌<◌, ◌≤◌, Bool, true, false, List, length, take, Option, Some, None}
 use Rattle.std.specs.Io.KnownBytes.{Appends, Keeps}
-use Rattle.sand_model.specs.Piles.{most_grains}
+use Rattle.sand_model.specs.Grid.{Grid}
+use Rattle.sand_model.specs.Piles.{most_grains_on}
 use Rattle.sand_text.specs.Flow.{IsFurther, IsFurtherByAtMost, most_bytes}
 use Rattle.sand_text.specs.Reading.{pile_of}
 use Rattle.clap.specs.Words.{IsAmong, Text, kind_of}
@@ -25,12 +26,12 @@ abbrev pub IsTextOf : Task → List ℕ → List ℕ → Type 0
 IsTextOf (task.Lab wish journal form) input text = IsLabText wish journal form input text
 IsTextOf task input text = IsTextWithoutLab task input text
 
--- a run failed: the pile and all drops exceed the grain limit, memory ran out, or a place of the album was taken
-abbrev pub IsRunFault : ℕ → DeskFault → Type 0
-IsRunFault grains desk.TooManyGrains = most_grains < grains
-IsRunFault grains desk.Memory = Unit {0}
-IsRunFault grains desk.Taken = grains ≤ most_grains
-IsRunFault grains fault = ⊥
+-- a run failed: the pile and all drops exceed the grain limit of the grid, memory ran out, or a place of the album was taken
+abbrev pub IsRunFault : Grid → ℕ → DeskFault → Type 0
+IsRunFault g grains desk.TooManyGrains = most_grains_on g < grains
+IsRunFault g grains desk.Memory = Unit {0}
+IsRunFault g grains desk.Taken = grains ≤ most_grains_on g
+IsRunFault g grains fault = ⊥
 
 -- a run needs room for all its drops
 abbrev pub IsLabFault : Wish → List ℕ → DeskFault → Type 0

@@ -1,6 +1,6 @@
 -- What `lab` writes.
 use Rattle.std.specs.Prelude.{ℕ, ◌≡◌, ◌+◌, ◌<◌, ◌≤◌, Bool, false, List, [], ◌++◌, length, map, sum, Ok, if◌then◌else◌}
-use Rattle.sand_model.specs.Piles.{PileView, most_grains}
+use Rattle.sand_model.specs.Piles.{PileView, most_grains_on}
 use Rattle.sand_shared.specs.Record.{RecordView}
 use Rattle.sand_text.specs.declared.runs.Sums.{Sums}
 use Rattle.sand_text.specs.Pictures.{pgm_text_of}
@@ -55,14 +55,14 @@ abbrev pub OneLabText : Type 0
 OneLabText = (w v : Wish) (form : Form) (input one other : List ℕ) → AskTheSame w v
     → IsLabText w false form input one → IsLabText v false form input other → one ≡ other
 
--- the pile and all drops exceed the grain limit
+-- the pile and all drops exceed the grain limit of the grid
 pub record IsOvergrown (w : Wish) (input : List ℕ) : Type 0 where
   pub start : PileView
   pub read : pile_of input ≡ Ok start
-  pub over : most_grains < sum start.heights + all_drops w
+  pub over : most_grains_on start.grid < sum start.heights + all_drops w
 
--- the pile and all drops are within the grain limit
+-- the pile and all drops are within the grain limit of the grid
 pub record IsRunnable (w : Wish) (input : List ℕ) : Type 0 where
   pub start : PileView
   pub read : pile_of input ≡ Ok start
-  pub within : sum start.heights + all_drops w ≤ most_grains
+  pub within : sum start.heights + all_drops w ≤ most_grains_on start.grid

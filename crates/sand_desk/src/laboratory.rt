@@ -108,7 +108,7 @@ fn report_on<T: Threads + Sync, G: Gate>(
 ) -> Result<Report, DeskFault>
     requires { IsRun wish }
     ensures report { IfOk result (λ p. (album : List ℕ) × IsReport album wish start.now p) }
-    ensures fault { IfErr result (IsRunFault (sum start.now.heights + all_drops wish)) }
+    ensures fault { IfErr result (IsRunFault start.now.grid (sum start.now.heights + all_drops wish)) }
 {
     let plan = plan_of(wish);
     let Ok(album) = Album::new(alloc, wish.epochs) else {

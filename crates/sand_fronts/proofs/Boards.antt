@@ -44,7 +44,7 @@ unfolding shift_east
 east_shift_below g k = either_below (seam_east g k) ((g.width - 1) % 8) 7 8 (omega arith) (omega arith)
 
 pub board_of : (g : Grid) (all : List Beside) → IsGrid g → length all ≡ tiles g
-    → tiles g ≤ 65536 → ((k : ℕ) → k < tiles g → IsBeside g k (beside_at all k))
+    → tiles g ≤ 2097152 → ((k : ℕ) → k < tiles g → IsBeside g k (beside_at all k))
     → AreBeside g all
 board_of g all sides one_each small each =
     record {

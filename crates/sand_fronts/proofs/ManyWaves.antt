@@ -1,8 +1,9 @@
 -- From one wave of a drop to the next.
 use Rattle.sand_fronts.proofs.Common.{ℕ, Bool, true, false, cond, eqb, ltb, leb, ◌&&◌, List, ◌≡◌, ◌≢◌, ◌+◌, ◌*◌, ◌^◌, ◌<◌, ◌≤◌, refl, sym, ◌∙◌, ap, arith, ⊎_elim, mul-le-mul_right, cases_eq, leb-true, leb-false, nat_tests, Grid, IsGrid, sites, IsSettled, flow, one_at, topplings, lost, weight, grain_weight, sum_below, flow_le, flow_ones, weight_after, sum_below_same, sum_below_le, sum_below-add, sum_below-scale, sum_below-one_at, one_at_same, one_at_other, sum_below_none, all_or_one, at_most_one, underway_start, underway_end, advances_on, Tile, bit, number, Count, counted, bit_le, tiles, tile_of, place_of, on_tiles, IsClear, Counts, tile_at, toppled, IsWave, IsWholeWave, AreAtRest, heights_before, IsOneWave, over_wave, counts_of, AreCounted, heights_on, grown_on, AreOutside, AreQuiet}
 use Rattle.sand_model.specs.Grid.{missing}
+use Rattle.sand_model.specs.Sand.{grains}
 use Rattle.sand_model.specs.Underway.{Advances}
-use Rattle.sand_model.proofs.Bounds.{at_most_sum_below, sites_limit, weight_bound}
+use Rattle.sand_model.proofs.Bounds.{at_most_sum_below, few_weigh, limit_has_room, weight_bound}
 use Rattle.sand_fronts.proofs.OnTiles.{place_below, on_sum, on_below, on_each, height_low}
 use Rattle.sand_fronts.proofs.Ends.{wave_balance, wave_advances, four_again, one_wave, HasPassed, Leaves}
 use Rattle.sand_fronts.proofs.Sums.{sum_on_tiles, sum_below_most}
@@ -186,16 +187,17 @@ lost_few g u =
 pub none_lost : (g : Grid) (c : ℕ → Count) → 0 ≡ lost g (grown_on g c c)
 none_lost g c = omega (arith, none_grown g c, lost_few g (grown_on g c c))
 
--- a drop on a stable pile topples fewer than 2 ^ 32 times
+-- a drop on a stable pile topples fewer than 2 ^ 54 times
 pub few_yet : {g : Grid} {site : ℕ} {more : Bool} {τ σ : ℕ → Tile} {c d : ℕ → Count}
     → IsGrid g → AreWaves g site more τ σ c d
-    → (topplings g (grown_on g c d) < 2 ^ 32) × (lost g (grown_on g c d) < 2 ^ 34)
+    → (topplings g (grown_on g c d) < 2 ^ 54) × (lost g (grown_on g c d) < 2 ^ 56)
 few_yet {g} {site} {τ = τ} {c = c} {d = d} sides waves =
     let h = heights_before g site τ in
     let each = sum_below_most (sites g) 7 h
     (λ j l. omega (arith, height_low (τ (tile_of g j)) (place_of g j), at_most_one (eqb site j))) in
-    let few : topplings g (grown_on g c d) < 2 ^ 32 = omega
-    (arith, sites_limit g sides, weight_bound g h sides, none_grown g c, waves.advances.weight_pays) in
+    let light = few_weigh g (grains g h) (omega (arith, limit_has_room g sides)) in
+    let few : topplings g (grown_on g c d) < 2 ^ 54 = omega
+    (arith, light, weight_bound g h, none_grown g c, waves.advances.weight_pays) in
     (few, omega (arith, lost_few g (grown_on g c d)))
 
 pub few_counted : {g : Grid} {site : ℕ} {more : Bool} {τ σ : ℕ → Tile} {c d : ℕ → Count} (m p : ℕ)
@@ -204,7 +206,7 @@ pub few_counted : {g : Grid} {site : ℕ} {more : Bool} {τ σ : ℕ → Tile} {
 few_counted {g} {c = c} {d = d} m p sides waves low few =
     let u = grown_on g c d in
     let all = (few_yet sides waves).0 in
-    let below = on_below g u m p (2 ^ 32) low (λ j l. omega (arith, at_most_sum_below (sites g) u j l)) in
+    let below = on_below g u m p (2 ^ 54) low (λ j l. omega (arith, at_most_sum_below (sites g) u j l)) in
     omega (arith, waves.counts m p low)
 
 pub waves_end : {g : Grid} {site : ℕ} {τ σ : ℕ → Tile} {c d : ℕ → Count} → AreWaves g site false τ σ c d

@@ -158,7 +158,7 @@ some_reached g site v are each in_sets far =
 
 -- ---- the reach fits into 32 bits
 
-near : (g : Grid) (i j : ℕ) → IsGrid g → i < sites g → j < sites g → distance g i j < 512
+near : (g : Grid) (i j : ℕ) → IsGrid g → i < sites g → j < sites g → distance g i j < 16384
 unfolding distance
 near g i j sides inside there =
     let a = mod_below i g.width (omega arith) in

@@ -133,7 +133,7 @@ pub record AtTile (g : Grid) (k : ℕ) (b : Beside) : Type 0 where
 -- for the tile of each site its four neighbours
 pub record AreBeside (g : Grid) (all : List Beside) : Type 0 where
   pub sides : IsGrid g
-  pub fits : tiles g ≤ 65536
+  pub fits : tiles g ≤ 2097152
   pub len : length all ≡ tiles g
   pub each : (j : ℕ) → j < sites g → AtTile g (tile_of g j) (beside_at all (tile_of g j))
 

@@ -52,7 +52,7 @@ fn missing_at(shape: Shape, spot: Spot) -> u64
 // The same for the places of a tile.
 #[inline(always)]
 fn outside_in(shape: Shape, k: usize) -> Tile
-    requires { k < 2 ^ 20 }
+    requires { k < 2 ^ 22 }
     ensures { (p : ℕ) → p < 64 → number result p ≡ on_tiles shape (missing shape) k p }
 {
     if is_inner(shape, k) {

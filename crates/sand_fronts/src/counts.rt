@@ -64,7 +64,7 @@ fn with_lists(spilled: Vec<[u64; 64]>, k: usize) -> (Vec<[u64; 64]>, ())
 impl Counts {
     /// No topplings on n tiles. Fails only if an allocation fails.
     pub(crate) fn new(alloc: Global, n: usize) -> Result<Counts, AllocError>
-        requires { n ≤ 65536 }
+        requires { n ≤ 2097152 }
         ensures len { IfOk result (λ c. (length c.each.items ≡ n) × (length c.marks.sets ≡ n)) }
         ensures room { IfOk result (λ c. vec_capacity c.spilled ≡ n) }
         ensures sound { IfOk result (λ c. (m : ℕ) → IsCount (counts_of c m)) }
@@ -148,7 +148,7 @@ impl Counts {
         requires len { (length self.old.each.items ≡ length tiles.old.items)
             × (vec_capacity self.old.spilled ≡ length tiles.old.items)
             × (length self.old.marks.sets ≡ length tiles.old.items) }
-        requires fits { length tiles.old.items ≤ 65536 }
+        requires fits { length tiles.old.items ≤ 2097152 }
         requires sound { IsCount (counts_of self.old k) }
         requires bound { (p : ℕ) → p < 64 → counted (counts_of self.old k) p < 2 ^ 62 }
         ensures counted { AreCounted tiles.old.items tiles.new.items self.old self.new }

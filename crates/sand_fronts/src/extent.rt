@@ -25,7 +25,7 @@ const NOWHERE: Extent = Extent { area: 0, reach: 0 };
 // The first place of a tile with sites.
 #[inline(always)]
 fn corner(shape: Shape, k: usize) -> Spot
-    requires { k < 2 ^ 20 }
+    requires { k < 2 ^ 22 }
     ensures value { result ≡ corner_of shape k }
     ensures fits { (result.column < 2 ^ 31) × (result.row < 2 ^ 31) }
 {
@@ -47,7 +47,7 @@ fn spot(shape: Shape, site: usize) -> Spot
 
 #[inline(always)]
 fn add_set(shape: Shape, from: Spot, k: usize, set: u64, extent: Extent) -> Extent
-    requires tile { k < 2 ^ 20 }
+    requires tile { k < 2 ^ 22 }
     requires fits { (from.column < 2 ^ 32) × (from.row < 2 ^ 32) × (extent.area < 2 ^ 40) }
     ensures area { result.area ≡ extent.area + sum_below 64 (bit set) }
     ensures reach { IsReachedFrom shape from (corner_of shape k) set extent.reach result.reach }
@@ -61,7 +61,7 @@ fn add_set(shape: Shape, from: Spot, k: usize, set: u64, extent: Extent) -> Exte
 /// Clears all sets. Returns how far they reached from a site.
 pub(crate) fn take_all(shape: Shape, site: usize, marks: &mut Marks) -> Extent
     requires site { site < sites shape }
-    requires fits { length marks.old.sets ≤ 65536 }
+    requires fits { length marks.old.sets ≤ 2097152 }
     ensures area { result.area ≡ in_sets (length marks.old.sets) (slice_index marks.old.sets) }
     ensures reach { IsReachedIn shape (spot_of shape site) (slice_index marks.old.sets) result.reach }
     ensures len { length marks.new.sets ≡ length marks.old.sets }

@@ -43,7 +43,7 @@ fn put_number(tile: &mut Tile, first: u64)
 #[inline(always)]
 #[tactic(auto, unfolding(crate::specs::Tiling::is_site))]
 fn site_at(shape: Shape, k: usize, place: usize) -> Option<Spot>
-    requires { (k < 2 ^ 20) × (place < 64) }
+    requires { (k < 2 ^ 22) × (place < 64) }
     ensures { result ≡ (if is_site shape k place
         then Some (record { column = column_at shape k place; row = row_at shape k place }) else None) }
 {
@@ -63,7 +63,7 @@ fn site_at(shape: Shape, k: usize, place: usize) -> Option<Spot>
 /// Whether each place of a tile is a site with four neighbours. It may say so of fewer tiles.
 #[inline(always)]
 pub(crate) fn is_inner(shape: Shape, k: usize) -> bool
-    requires { k < 2 ^ 20 }
+    requires { k < 2 ^ 22 }
     ensures { IsTrue result → IsInner shape k }
 {
     let (down, across) = (k / pitch(shape), k % pitch(shape));
@@ -76,7 +76,7 @@ pub(crate) fn is_inner(shape: Shape, k: usize) -> bool
 // The number of a place: that of its site, or 0 if it is no site.
 #[inline(always)]
 fn number_at<F: Fn(Spot) -> u64>(shape: Shape, k: usize, place: usize, numbers: &F) -> u64
-    requires place { (k < 2 ^ 20) × (place < 64) }
+    requires place { (k < 2 ^ 22) × (place < 64) }
     requires sites { AtSites shape (F.pre numbers.now) (F.post numbers.now) }
     ensures bound { result ≤ 7 }
     ensures each { (h : ℕ → ℕ) → Tells shape (F.post numbers.now) h → result ≡ on_tiles shape h k place }
@@ -89,7 +89,7 @@ fn number_at<F: Fn(Spot) -> u64>(shape: Shape, k: usize, place: usize, numbers: 
 
 /// One tile with the numbers of its sites.
 pub(crate) fn tile_of<F: Fn(Spot) -> u64>(shape: Shape, k: usize, numbers: &F) -> Tile
-    requires tile { k < 2 ^ 20 }
+    requires tile { k < 2 ^ 22 }
     requires sites { AtSites shape (F.pre numbers.now) (F.post numbers.now) }
     ensures { IsFilled shape (F.post numbers.now) k result }
 {

@@ -34,7 +34,7 @@ impl Model for Marks {
 impl Marks {
     /// Empty sets for n tiles. Fails only if an allocation fails.
     pub(crate) fn new(alloc: Global, n: usize) -> Result<Marks, AllocError>
-        requires { n ≤ 65536 }
+        requires { n ≤ 2097152 }
         ensures len { IfOk result (λ m. length m.sets ≡ n) }
         ensures none { IfOk result (λ m. (k : ℕ) → slice_index m.sets k ≡ 0) }
     {
@@ -47,7 +47,7 @@ impl Marks {
     #[inline(always)]
     pub(crate) fn mark(&mut self, k: usize, set: u64)
         requires tile { k < length self.old.sets }
-        requires fits { length self.old.sets ≤ 65536 }
+        requires fits { length self.old.sets ≤ 2097152 }
         ensures len { length self.new.sets ≡ length self.old.sets }
         ensures each { (m : ℕ) → slice_index self.new.sets m
             ≡ (if m == k then bit_or (slice_index self.old.sets m) set else slice_index self.old.sets m) }

@@ -73,7 +73,7 @@ impl Sand {
     #[inline(always)]
     fn gain(&mut self, free: &[u64], k: usize, gain: u64)
         requires inside { k < length self.old.tiles.items }
-        requires fits { length self.old.tiles.items ≤ 65536 }
+        requires fits { length self.old.tiles.items ≤ 2097152 }
         requires len { length free.now ≡ length self.old.tiles.items }
         requires room { length self.old.list.items < self.old.list.room }
         ensures { Gets (slice_index free.now) 1 (only k (bit gain)) self.old self.new }
@@ -89,7 +89,7 @@ impl Sand {
     #[inline(always)]
     fn hand_over(&mut self, free: &[u64], beside: &Beside, new: u64)
         requires beside { IsOnBoard (length self.old.tiles.items) beside.now }
-        requires fits { length self.old.tiles.items ≤ 65536 }
+        requires fits { length self.old.tiles.items ≤ 2097152 }
         requires len { length free.now ≡ length self.old.tiles.items }
         requires room { length self.old.list.items + 4 ≤ self.old.list.room }
         ensures { Gets (slice_index free.now) 4 (over_rim beside.now new) self.old self.new }

@@ -77,7 +77,7 @@ fn topple_grain(
 fn avalanche_of(shape: Shape, site: usize, total: Total, marks: &mut Marks) -> Avalanche
     requires site { site < sites shape }
     requires len { length marks.old.sets ≡ tiles shape }
-    requires fits { (tiles shape ≤ 65536) × IsGrid shape }
+    requires fits { (tiles shape ≤ 2097152) × IsGrid shape }
     requires at_sites { AreSites shape (slice_index marks.old.sets) }
     ensures avalanche { (v : ℕ → ℕ) → AreToppled shape v (slice_index marks.old.sets) → total.size ≡ topplings shape v
         → total.lost ≡ lost shape v → IsAvalanche shape site v result }

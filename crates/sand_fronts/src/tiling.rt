@@ -24,7 +24,7 @@ pub(crate) const SIDE: usize = 8;
 pub(crate) fn across(shape: Shape) -> usize
     ensures value { result ≡ across shape }
     ensures some { 1 ≤ result }
-    ensures limit { result ≤ 32 }
+    ensures limit { result ≤ 1024 }
     ensures sides { IsGrid shape }
 {
     shape.width().div_ceil(SIDE)
@@ -35,7 +35,7 @@ pub(crate) fn across(shape: Shape) -> usize
 pub(crate) fn pitch(shape: Shape) -> usize
     ensures value { result ≡ pitch shape }
     ensures some { 3 ≤ result }
-    ensures limit { result ≤ 34 }
+    ensures limit { result ≤ 1026 }
     ensures sides { IsGrid shape }
 {
     across(shape) + 2
@@ -44,7 +44,7 @@ pub(crate) fn pitch(shape: Shape) -> usize
 /// The number of tiles, including the border.
 pub(crate) fn tiles(shape: Shape) -> usize
     ensures value { result ≡ tiles shape }
-    ensures limit { result ≤ 65536 }
+    ensures limit { result ≤ 2097152 }
     ensures sides { IsGrid shape }
 {
     (shape.height().div_ceil(SIDE) + 4) * pitch(shape)
@@ -77,7 +77,7 @@ pub(crate) fn find(shape: Shape, site: usize) -> (usize, usize)
 // The word of the places of a tile that are sites.
 #[inline(always)]
 fn open_in(shape: Shape, k: usize) -> u64
-    requires { k < 2 ^ 20 }
+    requires { k < 2 ^ 22 }
     ensures { (p : ℕ) → p < 64 → bit result p ≡ on_tiles shape (λ j. 1) k p }
 {
     if is_inner(shape, k) {

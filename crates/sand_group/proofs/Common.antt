@@ -17,11 +17,11 @@ pub use Rattle.sand_model.proofs.Occurrences.{occurrences-cons, occurrences-push
 pub use Rattle.sand_model.specs.Lists.{Lists, one_if}
 pub use Rattle.sand_model.proofs.Lists.{at_most_once, listed, lists_below, lists_all, lists_leave, read_below, read_fresh, read_passes, unlisted, lists_length, lists_more_no, lists_more_yes, lists_of, lists_room}
 pub use Rattle.sand_model.specs.Integers.{whole, IsEquivalent, laplacian}
-pub use Rattle.sand_model.specs.Piles.{PileView, height_of, IsPile, most_grains}
+pub use Rattle.sand_model.specs.Piles.{PileView, height_of, IsPile, most_grains_on}
 pub use Rattle.sand_model.proofs.OverIntegers.{toppled_is_integers, above, below, parts, laplacian-parts, settled_equivalent}
 pub use Rattle.sand_model.proofs.Sandpile.{settled_same, sum_by_ones, settled_in_parts, settled_once, settled_stable}
 pub use Rattle.sand_model.proofs.EquivalenceIsLinear.{equivalent_sym, equivalent_add, equivalent_same, equivalent_times, equivalent_trans}
-pub use Rattle.sand_model.proofs.Bounds.{sites_limit, at_most_sum_below}
+pub use Rattle.sand_model.proofs.Bounds.{sites_limit, limit_has_room, at_most_sum_below}
 pub use Rattle.sand_settle.specs.Settling.{SettledView, IsSettledRecord, odometer_of}
 pub use Rattle.sand_group.specs.Classes.{IsFired, integer_at, IsFiredToRecurrent, IsSuperstableOf, IsSuperstable, whole_grains}
 pub use Rattle.sand_group.specs.Fire.{may_burn, is_out, CountsUnburnt, FireSpreadsFrom, ListsBurning, ListsUnburnt}

@@ -1,22 +1,28 @@
 -- The results of the operations of the group, from the lists of heights that they settle.
-use Rattle.sand_group.proofs.Common.{ℕ, ◌≡◌, ◌+◌, ◌-◌, ◌*◌, ◌<◌, ◌≤◌, refl, sym, ◌∙◌, ap, arith, List, length, sum, get_or, replicate, All, ext_get_or, get_or-replicate, get_or_read, sum_by-le, All-from_get_or, Grid, IsGrid, sites, IsStable, IsSettled, one_at, whole, PileView, IsPile, height_of, most_grains, settled_in_parts, settled_once, settled_same, sites_limit, SettledView, IsSettledRecord, odometer_of, IsRecurrent, SettlesTo, IsSurplus, IsSum, IsIdentity, IsEquivalentRecurrent}
+use Rattle.sand_group.proofs.Common.{ℕ, ◌≡◌, ◌+◌, ◌-◌, ◌*◌, ◌<◌, ◌≤◌, refl, sym, ◌∙◌, ap, arith, List, length, sum, get_or, replicate, All, ext_get_or, get_or-replicate, get_or_read, sum_by-le, All-from_get_or, Grid, IsGrid, sites, IsStable, IsSettled, one_at, whole, PileView, IsPile, height_of, most_grains_on, settled_in_parts, settled_once, settled_same, limit_has_room, SettledView, IsSettledRecord, odometer_of, IsRecurrent, SettlesTo, IsSurplus, IsSum, IsIdentity, IsEquivalentRecurrent}
 use Rattle.std.proofs.Math.ListN.{set}
 use Rattle.sand_model.proofs.Heights.{get_or-written}
 use Rattle.sand_group.proofs.OperationsSettle.{sum_is_settled, equivalent_is_settled, represents_itself, represented_once}
 
 -- far below the limit of a pile
 pub few_grains : (g : Grid) (heights : List ℕ) → IsGrid g → length heights ≡ sites g → All (λ h. h ≤ 12) heights
-    → sum heights ≤ 786432
-few_grains g heights grid len low = omega (arith, sum_by-le (λ h. h) 12 heights low, sites_limit g grid)
+    → sum heights ≤ most_grains_on g
+few_grains g heights grid len low = omega (arith, sum_by-le (λ h. h) 12 heights low, limit_has_room g grid)
 
-few_if_stable : (p : PileView) → IsPile p → IsStable p.grid (height_of p) → sum p.heights ≤ 786432
-few_if_stable p is stable = few_grains p.grid p.heights is.grid is.len
-    (All-from_get_or (λ h. h ≤ 12) p.heights 0 (λ i l. omega (arith, stable.low i (omega (arith, is.len)))))
+few_if_stable : (p : PileView) → IsPile p → IsStable p.grid (height_of p) → sum p.heights ≤ 3 * sites p.grid
+few_if_stable p is stable =
+    let low = All-from_get_or (λ h. h ≤ 3) p.heights 0 (λ i l. stable.low i (omega (arith, is.len))) in
+    omega (arith, sum_by-le (λ h. h) 3 p.heights low, is.len)
 
-pub together_small : (a b : PileView) → IsPile a → IsPile b → IsStable a.grid (height_of a)
-    → IsStable b.grid (height_of b) → sum a.heights + sum b.heights ≤ most_grains
-together_small a b is_a is_b stable_a stable_b =
-    omega (arith, few_if_stable a is_a stable_a, few_if_stable b is_b stable_b)
+pub together_small : (a b : PileView) → IsPile a → IsPile b → b.grid ≡ a.grid → IsStable a.grid (height_of a)
+    → IsStable b.grid (height_of b) → sum a.heights + sum b.heights ≤ most_grains_on a.grid
+together_small a b is_a is_b same stable_a stable_b = omega (
+  arith,
+  few_if_stable a is_a stable_a,
+  few_if_stable b is_b stable_b,
+  ap sites same,
+  limit_has_room a.grid is_a.grid,
+)
 
 -- ---- settled piles
 

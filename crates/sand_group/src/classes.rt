@@ -5,13 +5,13 @@
 
 ghost use Rattle.std.specs.Prelude.{◌≡◌, ◌≢◌, ℕ, ◌+◌, ◌^◌, ◌*◌, ◌<◌, ◌≤◌, ◌↔◌, ℤ, pos, ◌-ℤ◌, All, length, slice_index, sum, IfOk, IsTrue};
 ghost use Rattle.sand_model.specs.Grid.{sites};
-ghost use Rattle.sand_model.specs.Piles.{height_of, most_grains};
+ghost use Rattle.sand_model.specs.Piles.{height_of, most_grains_on};
 ghost use Rattle.sand_group.specs.Recurrence.{IsRecurrent};
 ghost use Rattle.sand_group.specs.Classes.{integer_at, whole_grains, IsFiredToRecurrent};
 
 use crate::group::Recurrent;
 use crate::reaching::{Reached, reach};
-use sand_model::{GRAIN_LIMIT, Pile, PileFault, Shape};
+use sand_model::{Pile, PileFault, Shape};
 use std::alloc::{AllocError, Global};
 
 /// A recurrent pile, and how often each site topples on the way to it.
@@ -22,14 +22,14 @@ pub struct Fired {
     pub firing: Vec<i64>,
 }
 
-// Whether the absolute values sum to at most the limit.
-fn is_within(heights: &[i64]) -> bool
-    ensures { IsTrue result ↔ (whole_grains heights.now ≤ most_grains) }
+// Whether the absolute values sum to at most a limit.
+fn is_within(heights: &[i64], limit: u64) -> bool
+    ensures { IsTrue result ↔ (whole_grains heights.now ≤ limit) }
 {
     let mut grains: u64 = 0;
     for height in heights {
         let size = height.unsigned_abs();
-        if size > GRAIN_LIMIT - grains {
+        if size > limit - grains {
             return false;
         }
         grains += size;
@@ -69,12 +69,12 @@ pub(crate) fn piles_of(
         → integer_at heights.now i ≡ pos (height_of p.0 i) -ℤ pos (height_of p.1 i)) }
     ensures length { (result ≡ Err PileFault.Length) ↔ (length heights.now ≢ sites shape) }
     ensures limit { (result ≡ Err PileFault.TooManyGrains)
-        ↔ ((length heights.now ≡ sites shape) × (most_grains < whole_grains heights.now)) }
+        ↔ ((length heights.now ≡ sites shape) × (most_grains_on shape < whole_grains heights.now)) }
 {
     if heights.len() != shape.sites() {
         return Err(PileFault::Length);
     }
-    if !is_within(heights) {
+    if !is_within(heights, shape.grain_limit()) {
         return Err(PileFault::TooManyGrains);
     }
     let (above, below) = parts_of(alloc, heights)?;
@@ -121,7 +121,7 @@ pub fn recurrent_by_firing(alloc: Global, shape: Shape, heights: &[i64]) -> Resu
         → (i : ℕ) → i < sites shape → (height_of f.recurrent i ≡ c i) × (integer_at f.firing.items i ≡ pos 0)) }
     ensures length { (result ≡ Err PileFault.Length) ↔ (length heights.now ≢ sites shape) }
     ensures limit { (result ≡ Err PileFault.TooManyGrains)
-        ↔ ((length heights.now ≡ sites shape) × (most_grains < whole_grains heights.now)) }
+        ↔ ((length heights.now ≡ sites shape) × (most_grains_on shape < whole_grains heights.now)) }
 {
     let (above, below) = piles_of(alloc, shape, heights)?;
     let Reached {

@@ -5,7 +5,7 @@
 
 ghost use Rattle.std.specs.Prelude.{◌≡◌, ◌≢◌, ℕ, ◌+◌, ◌<◌, ◌≤◌, ◌↔◌, pos, All, length, slice_index, IfOk};
 ghost use Rattle.sand_model.specs.Grid.{sites};
-ghost use Rattle.sand_model.specs.Piles.{height_of, most_grains};
+ghost use Rattle.sand_model.specs.Piles.{height_of, most_grains_on};
 ghost use Rattle.sand_group.specs.Classes.{integer_at, whole_grains, IsSuperstable, IsSuperstableOf};
 
 use crate::classes::piles_of;
@@ -36,7 +36,7 @@ pub fn superstable(alloc: Global, shape: Shape, heights: &[i64]) -> Result<Pile,
         ↔ ((i : ℕ) → i < sites shape → integer_at heights.now i ≡ pos (height_of s i))) }
     ensures length { (result ≡ Err PileFault.Length) ↔ (length heights.now ≢ sites shape) }
     ensures limit { (result ≡ Err PileFault.TooManyGrains)
-        ↔ ((length heights.now ≡ sites shape) × (most_grains < whole_grains heights.now)) }
+        ↔ ((length heights.now ≡ sites shape) × (most_grains_on shape < whole_grains heights.now)) }
 {
     let (above, below) = piles_of(alloc, shape, heights)?;
     // The recurrent pile of 3 - p.

@@ -48,3 +48,25 @@ fn sides_outside_the_limits(rt: HostRuntime) {
     assert!(rt; Shape::with_edge(2, 1, Edge::Cylinder) == Err(ShapeFault::Narrow));
     assert!(rt; ShapeFault::Side.number() == 1 && ShapeFault::Narrow.number() == 24);
 }
+
+// A grid of 1 by so many rows, whose grain limit divides 2^57 - 1 by the square of one more than its rows.
+#[test]
+fn large_grids_and_their_grain_limits(rt: HostRuntime) -> Result<(), Fail> {
+    for (width, height) in [(0, 1), (8193, 1), (1, 0), (1, 8193)] {
+        assert!(rt;
+            Shape::large(width, height, Edge::Open) == Err(ShapeFault::Side),
+            "{width} by {height}"
+        );
+    }
+    assert!(rt; Shape::large(2, 8192, Edge::Cylinder) == Err(ShapeFault::Narrow));
+    for (rows, limit) in [
+        (256, 1_099_511_627_775),
+        (361, 1_099_511_627_775),
+        (362, 1_093_695_695_314),
+        (8192, 2_146_959_455),
+    ] {
+        let shape = Shape::large(1, rows, Edge::Open)?;
+        assert!(rt; shape.grain_limit() == limit, "{rows} rows");
+    }
+    Ok(())
+}

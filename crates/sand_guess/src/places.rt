@@ -142,7 +142,7 @@ impl Place {
 /// The number of tiles in a row, with the border.
 pub(crate) fn pitch_of(shape: Shape) -> usize
     ensures some { 0 < result }
-    ensures bound { result ≤ 18 }
+    ensures bound { result ≤ 514 }
 {
     shape.width().div_ceil(COLUMNS) + 2
 }

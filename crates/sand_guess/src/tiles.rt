@@ -27,8 +27,10 @@ const PLANES: usize = 16;
 // The planes that a count is added to without a test.
 const FEW_PLANES: usize = 6;
 
-// More than the tiles of any grid, and a power of two.
+// The places of the ring for up to 1023 tiles. For more tiles it is doubled, at most so many times.
 const ROOM: usize = 1024;
+
+const DOUBLINGS: usize = 20;
 
 /// Whether the tiles have room for a height.
 #[inline(always)]
@@ -44,7 +46,7 @@ pub(crate) struct Tiles {
     places: Vec<Place>,
     /// By tile, how often each place toppled: a plane for each bit of the count.
     counts: Vec<[u16x8; PLANES]>,
-    /// The tiles that wait for a visit, each of them once, first in, first out: a ring of `ROOM` places.
+    /// The tiles that wait for a visit, each of them once, first in, first out: a ring, of a power of two.
     waiting: Vec<usize>,
     head: usize,
     tail: usize,
@@ -78,15 +80,27 @@ fn add_planes(place: &Place, sums: &mut [i64], planes: [u16x8; PLANES]) {
     }
 }
 
+// The places of a ring for so many tiles.
+fn room_for(tiles: usize) -> usize {
+    let mut room = ROOM;
+    for _ in 0..DOUBLINGS {
+        if room <= tiles {
+            room = room.wrapping_mul(2);
+        }
+    }
+    room
+}
+
 impl Tiles {
     pub(crate) fn new(alloc: Global, shape: Shape) -> Result<Tiles, AllocError> {
         let places = places_of(alloc, shape)?;
         let counts = vec![in alloc; [u16x8::splat(0); PLANES]; places.len()]?;
+        let room = room_for(places.len());
         Ok(Tiles {
             pitch: pitch_of(shape),
             places,
             counts,
-            waiting: vec![in alloc; 0usize; ROOM]?,
+            waiting: vec![in alloc; 0usize; room]?,
             head: 0,
             tail: 0,
             turns: Vec::new(alloc),

@@ -9,7 +9,7 @@ pub use Rattle.std.proofs.lemmas.Nat.{div-mul-add, div-add-mod', le-div}
 pub use Rattle.std.proofs.Math.Nat.{mul-le-mul_right, div-mul-le_self, mul-div_cancel_left}
 pub use Rattle.std.specs.Int.{div_ceil}
 pub use Rattle.std.specs.Vec.Iter.{into_iter_items, into_iter_len}
-pub use Rattle.sand_model.specs.Piles.{height_of, PileView, most_grains}
+pub use Rattle.sand_model.specs.Piles.{height_of, PileView, most_grains_on}
 pub use Rattle.sand_shared.specs.Events.{zeros, receipt, receipts_from}
 pub use Rattle.sand_shared.specs.OpenPile.{grid_of_terms, toppled_by, numbered, receipts_for}
 pub use Rattle.sand_shared.specs.Passes.{SharedView, PassView, IsPassOf, at_rest, EachOnce, AllBelow, IsWhole, sites_kept, together}

@@ -1,5 +1,5 @@
 -- A report with one more epoch, and why each epoch stays within the limit.
-use Rattle.sand_lab.proofs.Common.{◌≡◌, ℕ, zero, suc, ◌+◌, ◌-◌, ◌*◌, ◌<◌, ◌≤◌, List, [], ◌∷◌, ◌++◌, length, sum, sum_by, refl, sym, ap, ◌∙◌, subst, arith, append_assoc, append-nil, length-append, length-map, sum_by-cons, sum_by-append, sites, PileView, most_grains, odometer_of, RecordView, Entry, Wish, quota_of, all_drops, IsClosed, SheetView, ReportView, report_of, IsEpoch, AreEpochs, IsTotal, IsReportOf, IsBoth, HasGrown, last_pile, histories}
+use Rattle.sand_lab.proofs.Common.{◌≡◌, ℕ, zero, suc, ◌+◌, ◌-◌, ◌*◌, ◌<◌, ◌≤◌, List, [], ◌∷◌, ◌++◌, length, sum, sum_by, refl, sym, ap, ◌∙◌, subst, arith, append_assoc, append-nil, length-append, length-map, sum_by-cons, sum_by-append, sites, PileView, most_grains_on, odometer_of, RecordView, Entry, Wish, quota_of, all_drops, IsClosed, SheetView, ReportView, report_of, IsEpoch, AreEpochs, IsTotal, IsReportOf, IsBoth, HasGrown, last_pile, histories}
 
 epochs_push : (album : List ℕ) (w : Wish) (start : PileView) (t : ℕ)
     (rs : List RecordView) (ss : List SheetView) (r : RecordView) (s : SheetView)
@@ -115,12 +115,14 @@ first_and_later (suc n) quota some = grind arith
 -- each epoch has room for its drops
 pub room_for_epoch : (album : List ℕ) (w : Wish) (start : PileView) (n : ℕ) (p : ReportView)
     → IsReportOf album w start n p → n < w.epochs
-    → sum start.heights + all_drops w ≤ most_grains
-    → (sum p.total.start.heights + (length p.total.history + quota_of w) ≤ most_grains)
-    × (sum p.total.settled.pile.heights + quota_of w ≤ most_grains)
+    → sum start.heights + all_drops w ≤ most_grains_on start.grid
+    → (sum p.total.start.heights + (length p.total.history + quota_of w) ≤ most_grains_on p.total.start.grid)
+    × (sum p.total.settled.pile.heights + quota_of w ≤ most_grains_on p.total.settled.pile.grid)
 room_for_epoch album w start n p is lt limit =
     let drops = dropped_so_far album w start n p is in
     let more = one_more n w.epochs (quota_of w) lt in
     let same = ap (λ (x : PileView). sum x.heights) is.total.from_start in
+    let first = ap (λ (x : PileView). most_grains_on x.grid) is.total.from_start in
+    let last = ap most_grains_on is.total.one_threads.settled.grid in
     let grains = is.total.one_threads.kept in
-    (omega (arith, drops, more, same, limit), omega (arith, drops, more, same, limit, grains))
+    (omega (arith, drops, more, same, first, limit), omega (arith, drops, more, same, first, last, limit, grains))

@@ -3,7 +3,7 @@
 //! `closed_epoch` takes all steps but the last, so nothing is published of an epoch that cannot be settled.
 
 ghost use Rattle.std.specs.Prelude.{◌≡◌, ◌+◌, ◌<◌, ◌≤◌, [], length, sum, vec_len, vec_capacity, IfOk, IfErr};
-ghost use Rattle.sand_model.specs.Piles.{PileView, most_grains};
+ghost use Rattle.sand_model.specs.Piles.{PileView, most_grains_on};
 ghost use Rattle.sand_plan.specs.declared.wish.Wish.{Wish};
 ghost use Rattle.sand_plan.specs.Plans.{IsPlan, quota_of};
 ghost use Rattle.sand_shared.specs.Passes.{IsPassOf, IsWhole};
@@ -42,7 +42,7 @@ pub(crate) struct ClosedEpoch {
 
 // The shared pile of an epoch, and its first pass.
 fn share(alloc: Global, start: &Pile, quota: u64) -> Result<(SharedPile, Pass), LabFault>
-    requires limit { sum start.now.heights + quota ≤ most_grains }
+    requires limit { sum start.now.heights + quota ≤ most_grains_on start.now.grid }
     ensures terms { IfOk result (λ r. r.0.terms ≡ record { start = start.now; quota = quota }) }
     ensures first { IfOk result (λ r. r.1 ≡ unshared r.0 quota) }
     ensures memory { IfErr result IsMemory }
@@ -88,7 +88,7 @@ pub(crate) fn closed_epoch<R: Threads + Sync, G: Gate>(
     gate: &G,
 ) -> Result<ClosedEpoch, LabFault>
     requires plan { IsPlan wish }
-    requires limit { sum start.now.heights + quota_of wish ≤ most_grains }
+    requires limit { sum start.now.heights + quota_of wish ≤ most_grains_on start.now.grid }
     ensures closed { IfOk result (IsClosedEpoch wish start.now epoch) }
     ensures memory { IfErr result IsMemory }
 {
@@ -112,7 +112,8 @@ impl ClosedEpoch {
     /// A copy of the record with room for `drops` more drops, from which the total of a run grows. A total that does
     /// not grow shares the history. The only error is Memory.
     pub(crate) fn copy_to_grow(&self, alloc: Global, drops: u64) -> Result<Record, LabFault>
-        requires limit { sum self.now.closed.start.heights + (length self.now.closed.history + drops) ≤ most_grains }
+        requires limit { sum self.now.closed.start.heights + (length self.now.closed.history + drops)
+            ≤ most_grains_on self.now.closed.start.grid }
         ensures copy { IfOk result (λ r. r ≡ self.now.closed) }
         ensures memory { IfErr result IsMemory }
     {

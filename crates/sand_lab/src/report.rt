@@ -3,7 +3,7 @@
 ghost use Rattle.std.specs.Prelude.{◌≡◌, ◌+◌, ◌<◌, ◌≤◌, [], length, sum, slice_index, slice_index_or, vec_len, vec_capacity, IfOk, IfErr, OnOk, OnErr};
 ghost use Rattle.sand_lab.specs.Faults.{IsMemory};
 ghost use Rattle.sand_lab.specs.Reports.{HasGrown, IsBoth, report_of, sheet_at};
-ghost use Rattle.sand_model.specs.Piles.{most_grains};
+ghost use Rattle.sand_model.specs.Piles.{most_grains_on};
 
 use crate::album::Note;
 use crate::faults::LabFault;
@@ -124,7 +124,8 @@ impl Sheet {
 // Appends a record that starts from the pile of the total.
 fn append(alloc: Global, total: &mut Record, next: &Record) -> Result<(), LabFault>
     requires start { next.now.start ≡ total.old.settled.pile }
-    requires limit { sum total.old.start.heights + (length total.old.history + length next.now.history) ≤ most_grains }
+    requires limit { sum total.old.start.heights + (length total.old.history + length next.now.history)
+        ≤ most_grains_on total.old.start.grid }
     ensures both { OnOk result (IsBoth total.old next.now total.new) }
     ensures unchanged { OnErr result (total.new ≡ total.old) }
     ensures memory { IfErr result IsMemory }
@@ -180,7 +181,7 @@ impl Report {
         requires bound { length self.old.records < 100 }
         requires start { closed.start ≡ self.old.total.settled.pile }
         requires limit { sum self.old.total.start.heights + (length self.old.total.history + length closed.history)
-            ≤ most_grains }
+            ≤ most_grains_on self.old.total.start.grid }
         ensures grown { OnOk result (HasGrown self.old closed sheet self.new) }
         ensures unchanged { OnErr result (self.new ≡ self.old) }
         ensures memory { IfErr result IsMemory }

@@ -4,14 +4,14 @@ ghost use Rattle.std.specs.Prelude.{◌≡◌, ◌≢◌, ◌↔◌, ◌+◌, �
 ghost use Rattle.sand_lab.specs.Faults.{IsOfEpoch};
 ghost use Rattle.sand_plan.specs.Plans.{IsPlan, all_drops, quota_of};
 ghost use Rattle.sand_lab.specs.Reports.{IsReport, IsReportOf};
-ghost use Rattle.sand_model.specs.Piles.{PileView, most_grains};
+ghost use Rattle.sand_model.specs.Piles.{PileView, most_grains_on};
 
 use crate::album::Album;
 use crate::epochs::closed_epoch;
 use crate::faults::LabFault;
 use crate::plan::{Plan, quota_of};
 use crate::report::Report;
-use sand_model::{GRAIN_LIMIT, Pile};
+use sand_model::Pile;
 use sand_plan::{Gate, Wish};
 use std::alloc::Global;
 use std::thread::Threads;
@@ -26,7 +26,7 @@ fn first_report<R: Threads + Sync, G: Gate>(
     album: &Album,
 ) -> Result<Report, LabFault>
     requires plan { IsPlan wish }
-    requires limit { sum start.now.heights + all_drops wish ≤ most_grains }
+    requires limit { sum start.now.heights + all_drops wish ≤ most_grains_on start.now.grid }
     requires places { 0 < length album.now }
     ensures report { IfOk result (IsReportOf album.now wish start.now 1) }
     ensures faults { IfErr result IsOfEpoch }
@@ -48,7 +48,7 @@ fn run_all<R: Threads + Sync, G: Gate>(
     album: &Album,
 ) -> Result<Report, LabFault>
     requires plan { IsPlan wish }
-    requires limit { sum start.now.heights + all_drops wish ≤ most_grains }
+    requires limit { sum start.now.heights + all_drops wish ≤ most_grains_on start.now.grid }
     requires places { length album.now ≡ wish.epochs }
     ensures report { IfOk result (IsReport album.now wish start.now) }
     ensures faults { IfErr result IsOfEpoch }
@@ -85,7 +85,7 @@ pub fn run<R: Threads + Sync, G: Gate>(
 ) -> Result<Report, LabFault>
     ensures album_size { (result ≡ Err LabFault.AlbumSize) ↔ (length album.now ≢ plan.now.epochs) }
     ensures grains { (result ≡ Err LabFault.TooManyGrains)
-        ↔ ((length album.now ≡ plan.now.epochs) × (most_grains < sum start.now.heights + all_drops plan.now)) }
+        ↔ ((length album.now ≡ plan.now.epochs) × (most_grains_on start.now.grid < sum start.now.heights + all_drops plan.now)) }
     ensures no_plan { result ≢ Err LabFault.Plan }
     ensures report { IfOk result (IsReport album.now plan.now start.now) }
 {
@@ -93,7 +93,8 @@ pub fn run<R: Threads + Sync, G: Gate>(
     if album.places() != wish.epochs {
         return Err(LabFault::AlbumSize);
     }
-    if quota_of(wish) * u64::from(wish.epochs) > GRAIN_LIMIT - start.grains() {
+    let room = start.shape().grain_limit() - start.grains();
+    if quota_of(wish) * u64::from(wish.epochs) > room {
         return Err(LabFault::TooManyGrains);
     }
     run_all(rt, alloc, start, wish, gate, album)

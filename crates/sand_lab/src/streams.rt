@@ -8,8 +8,7 @@ use crate::faults::LabFault;
 use sand_model::Shape;
 use std::alloc::Global;
 
-/// The first `count` sites of a stream: its 32-bit words from place 0 on, modulo the number of sites of the shape. The
-/// only error is Memory.
+/// The first `count` sites of a stream. The only error is Memory.
 pub fn sites_of(
     alloc: Global,
     shape: Shape,

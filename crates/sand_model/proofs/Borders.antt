@@ -1,5 +1,5 @@
--- The first and the last row, by the number of a site, and the column and row of the next site.
-use Rattle.sand_model.proofs.Common.{ℕ, suc, ◌≡◌, ◌+◌, ◌/◌, ◌%◌, ◌<◌, ◌≤◌, refl, sym, arith, add-one, None, Bool, true, false, leb, ltb, ◌&&◌, nat_tests, le-div, div_below, div-add-mod', suc-mod, mod_self, mod-eq_of_lt, Grid, sites, row, column, is_inner}
+-- The first and the last row, by the number of a site, and the column of the next site.
+use Rattle.sand_model.proofs.Common.{ℕ, suc, ◌≡◌, ◌+◌, ◌%◌, ◌<◌, ◌≤◌, refl, sym, arith, add-one, None, Bool, true, false, leb, ltb, ◌&&◌, nat_tests, suc-mod, mod_self, mod-eq_of_lt, Grid, sites, row, column, is_inner}
 use Rattle.sand_model.specs.Grid.{north, south}
 use Rattle.sand_model.proofs.Neighbours.{some_width, row_above, row_below}
 
@@ -33,26 +33,16 @@ inner_told g i w end x inside width all at_column =
     rw (width, all, at_column, told.0, told.1)
     (and_joined (ltb 0 (row g i)) (ltb (row g i + 1) g.height) (ltb 0 (column g i)) (ltb (column g i + 1) g.width))
 
--- ---- the next site, after the end of a row and elsewhere
+-- ---- the column of the next site, after the end of a row and elsewhere
 
-pub next_row : (w i : ℕ) → i % w + 1 ≡ w → (0 ≡ (i + 1) % w) × (i / w + 1 ≡ (i + 1) / w)
-next_row w i last = (
-  (let all : suc (i % w) ≡ w = omega arith in
-      let turned : suc (i % w) % w ≡ 0 = rw all (mod_self w) in
-      sym (rw (add-one, suc-mod i w) turned)),
-  (let is = div-add-mod' i w in
-      let from = le-div (i / w + 1) (i + 1) w (omega arith) (omega arith) in
-      let below = div_below (i + 1) w (i / w + 2) (omega arith) (omega arith) in
-      omega arith),
-)
+pub next_row : (w i : ℕ) → i % w + 1 ≡ w → 0 ≡ (i + 1) % w
+next_row w i last =
+    let all : suc (i % w) ≡ w = omega arith in
+    let turned : suc (i % w) % w ≡ 0 = rw all (mod_self w) in
+    sym (rw (add-one, suc-mod i w) turned)
 
-pub same_row : (w i : ℕ) → i % w + 1 < w → (i % w + 1 ≡ (i + 1) % w) × (i / w ≡ (i + 1) / w)
-same_row w i inside = (
-  (let below : suc (i % w) < w = omega arith in
-      let kept = mod-eq_of_lt {n = suc (i % w)} {m = w} below in
-      sym (rw (add-one, suc-mod i w) (omega arith))),
-  (let is = div-add-mod' i w in
-      let from = le-div (i / w) (i + 1) w (omega arith) (omega arith) in
-      let below = div_below (i + 1) w (i / w + 1) (omega arith) (omega arith) in
-      omega arith),
-)
+pub same_row : (w i : ℕ) → i % w + 1 < w → i % w + 1 ≡ (i + 1) % w
+same_row w i inside =
+    let below : suc (i % w) < w = omega arith in
+    let kept = mod-eq_of_lt {n = suc (i % w)} {m = w} below in
+    sym (rw (add-one, suc-mod i w) (omega arith))

@@ -255,9 +255,9 @@ farthest : (e : Bool) (w h : ℕ) → 1 ≤ w → 1 ≤ h
 farthest true w h pw ph = in_middle h ph
 farthest false w h pw ph = ap₂ min (in_middle w pw) (in_middle h ph) ∙ half_of_least w h
 
-few : (e : Bool) (w h : ℕ) → h ≤ 256 → ((if e then h else min w h) + 1) / 2 ≤ 128
-few true w h l = omega arith
-few false w h l = omega arith
+few : (e : Bool) (w h : ℕ) → 2 * (((if e then h else min w h) + 1) / 2) ≤ h + 1
+few true w h = omega arith
+few false w h = omega arith
 
 pub none_farther : (g : Grid) (i : ℕ) → i < sites g → to_edge g i ≤ most_to_edge g
 none_farther g i l =
@@ -268,5 +268,5 @@ middle_farthest g sides =
     at_place g (middle g) (g.width / 2) (g.height / 2) (omega (arith, sides.some_width)) refl
     ∙ farthest (joins g.edge) g.width g.height sides.some_width sides.some_height
 
-pub most_is_small : (g : Grid) → IsGrid g → most_to_edge g ≤ 128
-most_is_small g sides = few (joins g.edge) g.width g.height sides.height_limit
+pub most_is_small : (g : Grid) → 2 * most_to_edge g ≤ g.height + 1
+most_is_small g = few (joins g.edge) g.width g.height

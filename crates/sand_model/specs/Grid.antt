@@ -22,24 +22,36 @@ joins Cylinder = true
 abbrev pub sites : Grid → ℕ
 sites g = g.width * g.height
 
--- each side is from 1 to 256, and a cylinder is at least 3 wide
+-- each side is from 1 to 8192, and a cylinder is at least 3 wide
 pub record IsGrid (g : Grid) : Type 0 where
   pub some_width : 1 ≤ g.width
-  pub width_limit : g.width ≤ 256
+  pub width_limit : g.width ≤ 8192
   pub some_height : 1 ≤ g.height
-  pub height_limit : g.height ≤ 256
+  pub height_limit : g.height ≤ 8192
   pub wide : joins g.edge ≡ true → 3 ≤ g.width
 
-abbrev pub is_side : ℕ → Bool
-is_side n = nat_le 1 n && nat_le n 256
+-- a side of at least 1 and at most a limit
+abbrev pub is_side_up_to : ℕ → ℕ → Bool
+is_side_up_to limit n = nat_le 1 n && nat_le n limit
 
--- the grid with these sides and this edge, or the error for an invalid one
-abbrev pub grid_with_edge : ℕ → ℕ → Edge → Result Grid ShapeFault
-grid_with_edge w h edge =
-    if is_side w && is_side h then
+abbrev pub is_side : ℕ → Bool
+is_side n = is_side_up_to 256 n
+
+-- the grid with these sides, at most the limit, and this edge, or the error for an invalid one
+abbrev pub grid_up_to : ℕ → ℕ → ℕ → Edge → Result Grid ShapeFault
+grid_up_to limit w h edge =
+    if is_side_up_to limit w && is_side_up_to limit h then
     (if joins edge && nat_lt w 3 then Err Narrow
     else Ok (record { width = w; height = h; edge = edge }))
     else Err Side
+
+-- the grid with these sides, at most 256, as in texts
+abbrev pub grid_with_edge : ℕ → ℕ → Edge → Result Grid ShapeFault
+grid_with_edge w h edge = grid_up_to 256 w h edge
+
+-- the grid with these sides, at most 8192
+abbrev pub large_grid : ℕ → ℕ → Edge → Result Grid ShapeFault
+large_grid w h edge = grid_up_to 8192 w h edge
 
 abbrev pub column : Grid → ℕ → ℕ
 column g i = i % g.width

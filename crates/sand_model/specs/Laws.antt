@@ -1,9 +1,10 @@
 -- The laws of toppling, over all grids and all piles.
-use Rattle.std.specs.Prelude.{ℕ, ℤ, pos, min, ◌≡◌, ◌+◌, ◌*◌, ◌<◌, ◌≤◌, ◌↔◌, ◌+ℤ◌, ◌-ℤ◌, ◌*ℤ◌, ◌≤ℤ◌, List, [], ◌∷◌, All, length, sum, slice_index}
+use Rattle.std.specs.Prelude.{ℕ, ℤ, pos, min, ◌≡◌, ◌+◌, ◌*◌, ◌^◌, ◌<◌, ◌≤◌, ◌↔◌, ◌+ℤ◌, ◌-ℤ◌, ◌*ℤ◌, ◌≤ℤ◌, List, [], ◌∷◌, All, length, sum, slice_index}
 use Rattle.sand_model.specs.Grid.{Grid, IsGrid, sites, missing, middle}
 use Rattle.sand_model.specs.Edges.{to_edge, most_to_edge}
 use Rattle.sand_model.specs.Forbidden.{IsTight}
-use Rattle.sand_model.specs.Sand.{flow, occurrences, one_at, IsStable, IsToppled, Stabilises, IsUnderway, IsLeast, IsSettled, grains, lost, weight}
+use Rattle.sand_model.specs.Sand.{flow, occurrences, one_at, IsStable, IsToppled, Stabilises, IsUnderway, IsLeast, IsSettled, grains, topplings, lost, weight}
+use Rattle.sand_model.specs.Piles.{most_grains, most_grains_on}
 use Rattle.sand_model.specs.Integers.{laplacian, whole_sum_below, whole, IsEquivalent}
 
 -- after each site has toppled u times, site i may topple: s - Lu is at least 4 there
@@ -106,4 +107,18 @@ abbrev pub MiddleIsFarthest : Type 0
 MiddleIsFarthest = (g : Grid) → IsGrid g → to_edge g (middle g) ≡ most_to_edge g
 
 abbrev pub EdgeIsNear : Type 0
-EdgeIsNear = (g : Grid) → IsGrid g → most_to_edge g ≤ 128
+EdgeIsNear = (g : Grid) → 2 * most_to_edge g ≤ g.height + 1
+
+-- grains within the limit of their grid topple less than 2^54 times
+abbrev pub TopplingsAreFew : Type 0
+TopplingsAreFew = (g : Grid) (s u t : ℕ → ℕ) → grains g s ≤ most_grains_on g → IsToppled g s u t → topplings g u < 2 ^ 54
+
+-- on a grid of at most 256 rows that is 2^40 - 1, on no grid more, and on each there is room for 18 grains a site
+abbrev pub LimitIsHigh : Type 0
+LimitIsHigh = (g : Grid) → g.height ≤ 256 → most_grains_on g ≡ most_grains
+
+abbrev pub LimitIsLow : Type 0
+LimitIsLow = (g : Grid) → most_grains_on g ≤ most_grains
+
+abbrev pub LimitHasRoom : Type 0
+LimitHasRoom = (g : Grid) → IsGrid g → 18 * sites g ≤ most_grains_on g

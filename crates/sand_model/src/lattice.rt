@@ -1,59 +1,53 @@
-//! A grid that finds neighbours and distances without a division.
+//! A grid that finds neighbours without a division.
 //!
 //! A `Shape` divides to find the neighbours of a site, and needs no memory. A table of two bytes per site saves the
 //! division at every toppling.
 
 ghost use Rattle.std.specs.Prelude.{◌≡◌, ◌<◌, Some, IfOk, IsTrue, map};
 ghost use Rattle.sand_model.specs.Grid.{IsGrid, sites, places, is_inner, missing, distance};
-ghost use Rattle.sand_model.specs.Columns.{AreSiteColumns, AreSiteRows};
+ghost use Rattle.sand_model.specs.Columns.{AreSiteColumns};
 
 use crate::shape::{Edge, Shape, outside};
 use std::alloc::{AllocError, Global};
 use std::marker::Model;
 
-/// A grid with a table of the column and the row of each site.
+/// A grid with a table of the column of each site.
 #[derive(Debug, Drop)]
 pub struct Lattice {
     // Copies of the width and the number of sites, so that `is_inner` needs no multiplication.
     width: usize,
     end: usize,
     shape: Shape,
-    columns: Vec<u8>,
-    rows: Vec<u8>,
+    columns: Vec<u16>,
 }
 
 impl Model for Lattice {
     ghost use Rattle.std.specs.Prelude.{◌≡◌};
     ghost use Rattle.sand_model.specs.Grid.{Grid, IsGrid, sites};
-    ghost use Rattle.sand_model.specs.Columns.{AreSiteColumns, AreSiteRows};
+    ghost use Rattle.sand_model.specs.Columns.{AreSiteColumns};
 
     ghost Value = { Grid };
 
     ghost view = { λ l. l.shape };
 
     ghost invariant = { λ l. IsGrid l.shape × (l.width ≡ l.shape.width) × (l.end ≡ sites l.shape)
-        × AreSiteColumns l.shape l.columns.items × AreSiteRows l.shape l.rows.items };
+        × AreSiteColumns l.shape l.columns.items };
 }
 
-fn tables_of(alloc: Global, shape: Shape) -> Result<(Vec<u8>, Vec<u8>), AllocError>
-    ensures columns { IfOk result (λ t. AreSiteColumns shape t.0.items) }
-    ensures rows { IfOk result (λ t. AreSiteRows shape t.1.items) }
+fn columns_of(alloc: Global, shape: Shape) -> Result<Vec<u16>, AllocError>
+    ensures { IfOk result (λ columns. AreSiteColumns shape columns.items) }
 {
     let width = shape.width();
     let mut columns = Vec::with_capacity(alloc, shape.sites())?;
-    let mut rows = Vec::with_capacity(alloc, shape.sites())?;
     let mut column = 0usize;
-    let mut row = 0usize;
     for _ in 0..shape.sites() {
-        columns.push_reserved(column as u8);
-        rows.push_reserved(row as u8);
+        columns.push_reserved(column as u16);
         column += 1;
         if column == width {
             column = 0;
-            row += 1;
         }
     }
-    Ok((columns, rows))
+    Ok(columns)
 }
 
 impl Lattice {
@@ -61,13 +55,12 @@ impl Lattice {
     pub fn new(alloc: Global, shape: Shape) -> Result<Lattice, AllocError>
         ensures { IfOk result (λ l. l ≡ shape) }
     {
-        let (columns, rows) = tables_of(alloc, shape)?;
+        let columns = columns_of(alloc, shape)?;
         Ok(Lattice {
             width: shape.width(),
             end: shape.sites(),
             shape,
             columns,
-            rows,
         })
     }
 
@@ -122,15 +115,14 @@ impl Lattice {
     }
 
     /// The distance between two sites in columns and rows, |dx| + |dy|; on a cylinder, the shorter way around.
-    #[inline(always)]
     #[tactic(auto, unfolding(crate::specs::Grid::distance))]
     pub fn distance(&self, from: usize, to: usize) -> u32
         requires from { from < sites self.now }
         requires to { to < sites self.now }
         ensures { result ≡ distance self.now from to }
     {
-        let across = usize::from(self.columns[from].abs_diff(self.columns[to]));
-        let down = usize::from(self.rows[from].abs_diff(self.rows[to]));
+        let ((x, y), (to_x, to_y)) = (self.shape.place(from), self.shape.place(to));
+        let (across, down) = (x.abs_diff(to_x), y.abs_diff(to_y));
         match self.shape.edge() {
             Edge::Open => (across + down) as u32,
             Edge::Cylinder => (across.min(self.shape.width() - across) + down) as u32,

@@ -29,7 +29,7 @@
 //! **Natural numbers and integers.** The definitions are over the natural numbers, without subtraction. Over the
 //! integers they are the `s - Lu` and the `s - Lu <= 3` of the textbooks.
 
-ghost use Rattle.sand_model.specs.Laws.{LeastAction, WeightFalls, LaplacianSum, LaplacianSumOverIntegers, EachSettles, Abelian, SettlesAfter, SettledOnce, LeastIfTight, ToppledOverIntegers, StabilisesOverIntegers, SettledIsEquivalent, SumIsGrains, GrainsAddUp, DropsAreGrains, SettledBySite, DropsToppleFew, NoneIsFarther, MiddleIsFarthest, EdgeIsNear};
+ghost use Rattle.sand_model.specs.Laws.{LeastAction, WeightFalls, LaplacianSum, LaplacianSumOverIntegers, EachSettles, Abelian, SettlesAfter, SettledOnce, LeastIfTight, ToppledOverIntegers, StabilisesOverIntegers, SettledIsEquivalent, SumIsGrains, GrainsAddUp, DropsAreGrains, SettledBySite, DropsToppleFew, NoneIsFarther, MiddleIsFarthest, EdgeIsNear, TopplingsAreFew, LimitIsHigh, LimitIsLow, LimitHasRoom};
 
 /// Legal topplings never exceed any odometer that stabilises the pile.
 pub fn least_action()
@@ -98,9 +98,18 @@ pub fn drops_topple_few()
     ensures { DropsToppleFew }
 {}
 
-/// The distance to the nearest open edge is greatest in the middle, and at most 128.
+/// The distance to the nearest open edge is greatest in the middle, and at most half of one more than the height.
 pub fn distances_to_edge()
     ensures none_farther { NoneIsFarther }
     ensures middle { MiddleIsFarthest }
     ensures small { EdgeIsNear }
+{}
+
+/// The grain limit of a grid: 2^40 - 1 on up to 256 rows, never more, and never so many that they topple 2^54 times; 18 grains on each
+/// site are always within it.
+pub fn grain_limits()
+    ensures few { TopplingsAreFew }
+    ensures high { LimitIsHigh }
+    ensures low { LimitIsLow }
+    ensures room { LimitHasRoom }
 {}

@@ -21,5 +21,5 @@ mod shape;
 pub use faults::{PileFault, ShapeFault, ToppleFault};
 pub use index_list::IndexList;
 pub use lattice::Lattice;
-pub use pile::{GRAIN_LIMIT, Pile, TOPPLING_HEIGHT, topple};
-pub use shape::{CYLINDER_WIDTH, Edge, SIDE_LIMIT, Shape};
+pub use pile::{Pile, TOPPLING_HEIGHT, topple};
+pub use shape::{CYLINDER_WIDTH, Edge, GRAIN_LIMIT, LARGE_SIDE_LIMIT, SIDE_LIMIT, Shape};

@@ -3,20 +3,17 @@
 ghost use Rattle.std.specs.Prelude.{◌≡◌, ◌≢◌, ℕ, ◌+◌, ◌*◌, ◌<◌, ◌≤◌, ◌↔◌, ◌⊎◌, length, sum, slice_index, slice_set, IfOk, IfErr, IsErr, OnErr, OnOk, IfSome, IsTrue, All, alloc_error};
 ghost use Rattle.sand_model.specs.Grid.{sites, missing};
 ghost use Rattle.sand_model.specs.Sand.{IsToppled, IsStable, one_at, value_at};
-ghost use Rattle.sand_model.specs.Piles.{IsPile, height_of, most_grains};
+ghost use Rattle.sand_model.specs.Piles.{IsPile, height_of, most_grains, most_grains_on};
 
 use crate::faults::{PileFault, ToppleFault};
 use crate::shape::Shape;
 use std::alloc::{AllocError, Global};
 use std::marker::Model;
 
-/// The most grains that a pile holds, 2^40 - 1.
-pub const GRAIN_LIMIT: u64 = 1_099_511_627_775;
-
 /// The height from which a site may topple, and the number of grains that it then loses.
 pub const TOPPLING_HEIGHT: u64 = 4;
 
-/// A pile: a height for each site of a shape, with at most `GRAIN_LIMIT` grains in all.
+/// A pile: a height for each site of a shape, with at most `Shape::grain_limit` grains in all.
 #[derive(Debug, Drop)]
 pub struct Pile {
     shape: Shape,
@@ -45,14 +42,15 @@ impl Pile {
         ensures made { IfOk result (λ p. p ≡ record { grid = shape; heights = heights.now }) }
         ensures length { (result ≡ Err PileFault.Length) ↔ (length heights.now ≢ sites shape) }
         ensures limit { (result ≡ Err PileFault.TooManyGrains)
-            ↔ ((length heights.now ≡ sites shape) × (most_grains < sum heights.now)) }
+            ↔ ((length heights.now ≡ sites shape) × (most_grains_on shape < sum heights.now)) }
     {
         if heights.len() != shape.sites() {
             return Err(PileFault::Length);
         }
+        let limit = shape.grain_limit();
         let mut grains: u64 = 0;
         for height in heights {
-            if *height > GRAIN_LIMIT - grains {
+            if *height > limit - grains {
                 return Err(PileFault::TooManyGrains);
             }
             grains += *height;
@@ -68,7 +66,7 @@ impl Pile {
     /// Makes a pile that takes over a list of heights.
     pub fn from_vec(shape: Shape, heights: Vec<u64>) -> Pile
         requires len { length heights.items ≡ sites shape }
-        requires limit { sum heights.items ≤ most_grains }
+        requires limit { sum heights.items ≤ most_grains_on shape }
         ensures { result ≡ record { grid = shape; heights = heights.items } }
     {
         let mut grains: u64 = 0;
@@ -81,7 +79,7 @@ impl Pile {
     /// The same for a list with a known sum: no height is read.
     pub fn from_counted(shape: Shape, heights: Vec<u64>, grains: u64) -> Pile
         requires len { length heights.items ≡ sites shape }
-        requires limit { sum heights.items ≤ most_grains }
+        requires limit { sum heights.items ≤ most_grains_on shape }
         requires counted { grains ≡ sum heights.items }
         ensures { result ≡ record { grid = shape; heights = heights.items } }
     {
@@ -165,10 +163,10 @@ impl Pile {
         ensures grid { IfOk result (λ p. p.grid ≡ self.now.grid) }
         ensures heights { IfOk result (λ p. (i : ℕ) → height_of p i ≡ height_of self.now i + height_of other.now i) }
         ensures limit { (result ≡ Err PileFault.TooManyGrains)
-            ↔ (most_grains < sum self.now.heights + sum other.now.heights) }
+            ↔ (most_grains_on self.now.grid < sum self.now.heights + sum other.now.heights) }
         ensures faults { IfErr result (λ e. (e ≡ PileFault.TooManyGrains) ⊎ (e ≡ PileFault.Memory alloc_error)) }
     {
-        if other.grains > GRAIN_LIMIT - self.grains {
+        if other.grains > self.shape.grain_limit() - self.grains {
             return Err(PileFault::TooManyGrains);
         }
         Ok(Pile {
@@ -183,11 +181,11 @@ impl Pile {
         requires { site < sites self.old.grid }
         ensures ok { OnOk result (self.new
             ≡ record self.old { heights = slice_set self.old.heights site (height_of self.old site + 1) }) }
-        ensures limit { IsErr result ↔ (sum self.old.heights ≡ most_grains) }
+        ensures limit { IsErr result ↔ (sum self.old.heights ≡ most_grains_on self.old.grid) }
         ensures fault { IfErr result (λ e. e ≡ PileFault.TooManyGrains) }
         ensures unchanged { OnErr result (self.new ≡ self.old) }
     {
-        if self.grains == GRAIN_LIMIT {
+        if self.grains == self.shape.grain_limit() {
             return Err(PileFault::TooManyGrains);
         }
         self.heights[site] += 1;

@@ -2,16 +2,29 @@
 //!
 //! Sites are numbered row by row from the north-west corner: the site in column `x` and row `y` is `y * width + x`.
 
-ghost use Rattle.std.specs.Prelude.{◌≡◌, ◌<◌, count_by, is_none};
-ghost use Rattle.sand_model.specs.Grid.{IsGrid, grid_with_edge, sites, column, row, north, west, east, south, places, missing, site_at, middle};
+ghost use Rattle.std.specs.Prelude.{◌≡◌, ◌<◌, ◌≤◌, count_by, is_none};
+ghost use Rattle.sand_model.specs.Grid.{IsGrid, grid_with_edge, large_grid, grid_up_to, sites, column, row, north, west, east, south, places, missing, site_at, middle};
 ghost use Rattle.sand_model.specs.Edges.{most_to_edge};
+ghost use Rattle.sand_model.specs.Piles.{most_grains, most_grains_on};
 ghost use Rattle.sand_model.specs.declared.shape.Edge.TheVariants.{Open};
 
 use crate::faults::ShapeFault;
 use std::marker::Model;
 
+/// The most grains that any pile holds, 2^40 - 1. On a large grid it may be fewer (`Shape::grain_limit`).
+pub const GRAIN_LIMIT: u64 = 1_099_511_627_775;
+
+// On up to this many rows `GRAIN_LIMIT` grains are light enough, so no limit is calculated at a drop.
+const FULL_ROWS: usize = 256;
+
+// The most that four times the weight of a pile may be, 2^57 - 1.
+const WEIGHT_LIMIT: u64 = 144_115_188_075_855_871;
+
 /// The greatest width and height.
 pub const SIDE_LIMIT: usize = 256;
+
+/// The greatest width and height of a large grid.
+pub const LARGE_SIDE_LIMIT: usize = 8192;
 
 /// The least width of a cylinder.
 pub const CYLINDER_WIDTH: usize = 3;
@@ -69,7 +82,23 @@ impl Shape {
     pub fn with_edge(w: usize, h: usize, edge: Edge) -> Result<Shape, ShapeFault>
         ensures { result ≡ grid_with_edge w h edge }
     {
-        if w < 1 || w > SIDE_LIMIT || h < 1 || h > SIDE_LIMIT {
+        Shape::up_to(SIDE_LIMIT, w, h, edge)
+    }
+
+    /// A grid with this edge and sides up to 8192, which no text has. Returns Side if a side is outside 1 to 8192, and otherwise
+    /// Narrow as `with_edge` does.
+    pub fn large(w: usize, h: usize, edge: Edge) -> Result<Shape, ShapeFault>
+        ensures { result ≡ large_grid w h edge }
+    {
+        Shape::up_to(LARGE_SIDE_LIMIT, w, h, edge)
+    }
+
+    // The same for any limit.
+    fn up_to(limit: usize, w: usize, h: usize, edge: Edge) -> Result<Shape, ShapeFault>
+        requires { limit ≤ 8192 }
+        ensures { result ≡ grid_up_to limit w h edge }
+    {
+        if w < 1 || w > limit || h < 1 || h > limit {
             return Err(ShapeFault::Side);
         }
         if edge == Edge::Cylinder && w < CYLINDER_WIDTH {
@@ -80,6 +109,19 @@ impl Shape {
             height: h,
             edge,
         })
+    }
+
+    /// The most grains of a pile on this grid: 2^40 - 1, and on more than 361 rows fewer, so that they cannot topple 2^54
+    /// times.
+    pub fn grain_limit(self) -> u64
+        ensures value { result ≡ most_grains_on self }
+        ensures small { result ≤ most_grains }
+    {
+        if self.height <= FULL_ROWS {
+            return GRAIN_LIMIT;
+        }
+        let rows = self.height as u64 + 1;
+        GRAIN_LIMIT.min(WEIGHT_LIMIT / (rows * rows))
     }
 
     #[inline(always)]

@@ -50,7 +50,7 @@ fn piles_take_no_memory(rt: HostRuntime) -> Result<(), Fail> {
     let alloc = rt.alloc();
     let shape = Shape::new(2, 1)?;
     let heights = Vec::from_slice(alloc, &[4, 0])?;
-    assert!(rt; heights.as_slice() == [4, 0].as_slice());
+    assert!(rt; heights.as_slice() == [4, 0].as_slice() && shape.grain_limit() >= 4);
     refuse(alloc, 0);
     let mut pile = Pile::from_vec(shape, heights);
     let actual = (pile.height(0), pile.grains(), pile.is_stable());

@@ -4,9 +4,9 @@ pub use Rattle.std.proofs.lemmas.List.{ext_get_or, length-append, append-nil, le
 pub use Rattle.std.proofs.lemmas.Bool.{cases_lt, ltb-true, ltb-false, lt-leb, le-leb, leb-true, leb-false, and_parts, cases_eq}
 pub use Rattle.sand_model.specs.Grid.{sites, Grid, missing, joins, column, row, columns_apart, places, IsGrid}
 pub use Rattle.sand_model.specs.Sand.{IsSettled, one_at, occurrences, grains, topplings, grain_weight, flow, value_at, lost, IsStable, weight, IsToppled}
-pub use Rattle.sand_model.specs.Piles.{most_grains, PileView, IsPile, height_of}
+pub use Rattle.sand_model.specs.Piles.{most_grains, most_grains_on, heaviest, PileView, IsPile, height_of}
 pub use Rattle.sand_model.proofs.Sandpile.{settled_same, laplacian_sum, weight_after, settled_in_parts, settled_stable, settled_once}
-pub use Rattle.sand_model.proofs.Bounds.{at_most_sum_below, weight_bound, topplings_bound, sites_limit}
+pub use Rattle.sand_model.proofs.Bounds.{at_most_sum_below, weight_bound, few_weigh, topplings_bound, sites_limit}
 pub use Rattle.sand_model.proofs.SumsBelow.{sum_below-add, sum_below_both, sum_below_same, one_at_other, sum_below_none, sum_below-one_at}
 pub use Rattle.sand_model.proofs.Heights.{sum_is_grains, sum_left, counted, toppled_times}
 pub use Rattle.sand_model.proofs.Underway.{underway_start, underway_end, underway_step, advances_on}

@@ -1,5 +1,5 @@
 -- A pile driven by fronts, before and after a drop.
-use Rattle.sand_settle.proofs.Common.{ℕ, List, length, take, ◌≡◌, ◌+◌, ◌^◌, ◌<◌, ◌≤◌, refl, sym, ◌∙◌, ap, subst, arith, sum, slice_index, ext_get_or, sites, IsSettled, one_at, most_grains, settled_same, at_most_sum_below, Avalanche, IsAvalanche, HasWaves, SettledView, IsSomeSettledRecord, odometer_of, IsPaid, TakesGrain, topplings_between, driven_record, IsDriven}
+use Rattle.sand_settle.proofs.Common.{ℕ, List, length, take, ◌≡◌, ◌+◌, ◌^◌, ◌<◌, ◌≤◌, refl, sym, ◌∙◌, ap, subst, arith, sum, slice_index, ext_get_or, sites, IsSettled, one_at, most_grains_on, settled_same, at_most_sum_below, Avalanche, IsAvalanche, HasWaves, SettledView, IsSomeSettledRecord, odometer_of, IsPaid, TakesGrain, topplings_between, driven_record, IsDriven}
 use Rattle.sand_model.specs.Edges.{to_edge}
 use Rattle.sand_model.proofs.Edges.{topples_few}
 use Rattle.sand_fronts.specs.TiledPiles.{TiledView, IsTiledView, HasDroppedOnTiles, by_site, toppled_between}
@@ -7,7 +7,7 @@ use Rattle.sand_fronts.proofs.OnPiles.{avalanche_same}
 use Rattle.sand_fronts.proofs.WaveSizes.{waves_add_up, written_whole}
 use Rattle.sand_fronts.proofs.NewPiles.{by_site_at, by_site_le, by_site_long}
 use Rattle.sand_settle.proofs.OneRecord.{same_parts}
-use Rattle.sand_settle.proofs.Drops.{paid_after, grains_after, some_record_after}
+use Rattle.sand_settle.proofs.Drops.{paid_after, paid_few, grains_after, some_record_after}
 
 -- ---- before a drop
 
@@ -58,7 +58,7 @@ few_counts {r} {t} {all = all} {gone = gone} driven j l =
     let at = by_site_at r.pile.grid (λ i. slice_index r.odometer i + slice_index t.times i) j (omega arith) in
     let part =
     at_most_sum_below (sites r.pile.grid) (odometer_of (driven_record r t all gone)) j (omega arith) in
-    omega (arith, driven.paid.all_topplings, driven.paid.paid, driven.paid.limit)
+    omega (arith, driven.paid.all_topplings, paid_few driven.paid)
 
 -- a grain dropped at the site has set off the avalanche f on the tiles t, which are u after it
 pub record DropsOn (r : SettledView) (t u : TiledView) (site : ℕ) (f : Avalanche) (number all gone grains : ℕ)
@@ -69,7 +69,7 @@ pub record DropsOn (r : SettledView) (t u : TiledView) (site : ℕ) (f : Avalanc
   pub driven : IsDriven r u (number + 1) (all + f.size) (gone + f.lost) (grains + 1)
 
 pub drops_on : {r : SettledView} {t u : TiledView} {site : ℕ} {f : Avalanche} {number all gone grains : ℕ}
-    → IsDriven r t number all gone grains → site < sites r.pile.grid → grains < most_grains
+    → IsDriven r t number all gone grains → site < sites r.pile.grid → grains < most_grains_on r.pile.grid
     → HasDroppedOnTiles t site f u
     → DropsOn r t u site f number all gone grains
 drops_on {r} {t} {u} {site} {f} {all = all} {gone = gone} driven inside room has =

@@ -1,5 +1,5 @@
 -- One more drop on a settled pile, and the result of a list of drops.
-use Rattle.sand_settle.proofs.Common.{ℕ, suc, length, ◌≡◌, ◌+◌, ◌*◌, ◌<◌, ◌≤◌, refl, sym, ◌∙◌, ap, subst, arith, List, [], ◌∷◌, ◌++◌, sum, Option, Some, None, append_assoc, ⊎_elim, MatchOption, cases_lt, length-append, append-nil, Grid, sites, missing, occurrences, one_at, grains, topplings, grain_weight, PileView, IsPile, height_of, most_grains, sum_below-add, sum_below_both, sum_below_same, laplacian_sum, weight_after, settled_in_parts, settled_same, settled_stable, sum_is_grains, weight_bound, SettledView, IsSettledRecord, IsSomeSettledRecord, odometer_of, DrivenView, IsAfter, topplings_between, TakesGrain, Drops, DropsAll, HasAvalanche, AreAvalanches, IsPaid, driven_view, IsOnePile, Avalanche}
+use Rattle.sand_settle.proofs.Common.{ℕ, suc, length, ◌≡◌, ◌+◌, ◌*◌, ◌^◌, ◌<◌, ◌≤◌, refl, sym, ◌∙◌, ap, subst, arith, List, [], ◌∷◌, ◌++◌, sum, Option, Some, None, append_assoc, ⊎_elim, MatchOption, cases_lt, length-append, append-nil, Grid, sites, missing, occurrences, one_at, grains, topplings, grain_weight, PileView, IsPile, height_of, most_grains_on, heaviest, sum_below-add, sum_below_both, sum_below_same, laplacian_sum, weight_after, settled_in_parts, settled_same, settled_stable, sum_is_grains, weight_bound, few_weigh, SettledView, IsSettledRecord, IsSomeSettledRecord, odometer_of, DrivenView, IsAfter, topplings_between, TakesGrain, Drops, DropsAll, HasAvalanche, AreAvalanches, IsPaid, driven_view, IsOnePile, Avalanche}
 use Rattle.std.proofs.lemmas.List.Elements.{All-push}
 use Rattle.sand_model.proofs.Occurrences.{occurrences-push}
 use Rattle.sand_settle.proofs.OneRecord.{record_by_site, some_record}
@@ -29,13 +29,19 @@ paid_start {start} {r} pile done =
       heights_each = rw done.grid done.heights_each;
       odometer_each = rw done.grid done.odometer_each;
       stable = rw done.grid (settled_stable g (height_of start) (odometer_of r) (height_of r.pile) done.settled);
-      limit = omega (arith, pile.limit);
+      limit = rw done.grid (omega (arith, pile.limit));
       all_topplings = rw done.grid done.all_topplings;
       paid =
           let falls = weight_after g (height_of start) (odometer_of r) (height_of r.pile) done.settled.toppled in
-          let heavy = weight_bound g (height_of start) pile.grid in
+          let heavy = weight_bound g (height_of start) in
+          let all = ap (λ n. heaviest g * n) kept in
           rw done.grid (omega (arith, done.all_topplings));
     }
+
+-- the grains pay for all topplings, and no more fit than can pay for 2 ^ 54
+pub paid_few : {r : SettledView} → IsPaid r → r.topplings < 2 ^ 54
+paid_few {r} paid =
+    omega (arith, paid.paid, few_weigh r.pile.grid (sum r.pile.heights + r.lost) paid.limit)
 
 pub after_start : {start : PileView} {r : SettledView} → IsPile start → IsSettledRecord start.grid (height_of start) r
     → IsAfter start [] (driven_view r 0)
@@ -78,7 +84,7 @@ topplings_after {r} {q} before taken =
     omega (arith, taken.more_topplings)
 
 pub paid_after : {r q : SettledView} {site : ℕ} → IsPaid r → site < sites r.pile.grid
-    → sum r.pile.heights + r.lost < most_grains → TakesGrain r site q → IsPaid q
+    → sum r.pile.heights + r.lost < most_grains_on r.pile.grid → TakesGrain r site q → IsPaid q
 paid_after {r} {q} {site} paid inside room taken =
     let g = r.pile.grid in
     let s : ℕ → ℕ = λ j. height_of r.pile j + one_at site j in
@@ -88,14 +94,15 @@ paid_after {r} {q} {site} paid inside room taken =
       heights_each = rw taken.grid taken.heights_each;
       odometer_each = rw taken.grid taken.odometer_each;
       stable = rw taken.grid (settled_stable g s (topplings_between r q) (height_of q.pile) taken.settled);
-      limit = omega arith;
+      limit = rw taken.grid (omega arith);
       all_topplings = rw taken.grid (topplings_after paid.all_topplings taken);
       paid =
           let falls = weight_after g s (topplings_between r q) (height_of q.pile) taken.settled.toppled in
           let both = sum_below_both (sites g) (λ i. height_of r.pile i * grain_weight g i)
           (λ i. one_at site i * grain_weight g i) (λ i. s i * grain_weight g i) (λ i l. omega arith) in
-          let one = weight_bound g (one_at site) paid.sides in
-          let grain = one_grain g site inside in
+          let one = weight_bound g (one_at site) in
+          let grain = ap (λ n. heaviest g * n) (one_grain g site inside) in
+          let all = ap (λ n. heaviest g * n) more in
           rw taken.grid (omega (arith, taken.more_topplings, paid.paid));
     }
 
@@ -144,7 +151,7 @@ after_drop start history site v w drop after =
     record {
       start_pile = after.start_pile;
       all_sites = All-push (λ j. j < sites start.grid) history site after.all_sites (omega (arith, drop.inside));
-      limit = omega (arith, drop.room, after.grains);
+      limit = (let same = ap most_grains_on after.settled.grid in omega (arith, drop.room, after.grains));
       settled = record_by_site start.grid (λ j. before j + one_at site j)
           (λ j. height_of start j + occurrences (history ++ site ∷ []) j) w.settled
           (λ j l. omega (arith, occurrences-push history site j)) (record_of_more before after.settled drop.settled);
@@ -183,7 +190,7 @@ view_after {w} {q = q} paid drop same =
 
 pub drops_from : (number : ℕ) {site : ℕ} {r q : SettledView} {v : DrivenView}
     → IsPaid r → driven_view r number ≡ v → site < sites r.pile.grid
-    → sum r.pile.heights + r.lost < most_grains → TakesGrain r site q
+    → sum r.pile.heights + r.lost < most_grains_on r.pile.grid → TakesGrain r site q
     → Drops v site (driven_view q (number + 1))
 drops_from number {site} {r} {q} paid seen inside room taken =
     let P : DrivenView → Type 0 = λ u. Drops u site (driven_view q (number + 1)) in

@@ -26,7 +26,7 @@ settles {start} {u} {h} pile counts heights done =
     let g = start.grid in
     let whole = sum_is_grains g start.heights pile.len in
     let all = topplings_bound g (height_of start) (slice_index u) (slice_index h)
-    pile.grid (omega (arith, pile.limit)) done.toppled in
+    (omega (arith, pile.limit)) done.toppled in
     let falls = weight_after g (height_of start) (slice_index u) (slice_index h) done.toppled in
     let sum_is = sum_is_grains g u counts in
     let kept = sum_left g start.heights h (slice_index u) pile.len heights done.toppled in

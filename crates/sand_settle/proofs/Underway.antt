@@ -1,5 +1,5 @@
 -- A pile that is being settled, turn by turn.
-use Rattle.sand_settle.proofs.Common.{ℕ, ◌≡◌, ◌+◌, ◌*◌, ◌^◌, ◌<◌, ◌≤◌, arith, List, length, replicate, sum, get_or, inl, inr, cases_lt, get_or-replicate, get_or_past, length-replicate, Grid, IsGrid, sites, one_at, IsToppled, topplings, weight, sum_below_none, sum_below_both, sum_below-one_at, weight_after, laplacian_sum, sum_is_grains, weight_bound, underway_step, Advances, most_grains}
+use Rattle.sand_settle.proofs.Common.{ℕ, ◌≡◌, ◌+◌, ◌*◌, ◌^◌, ◌<◌, ◌≤◌, arith, List, length, replicate, sum, get_or, inl, inr, cases_lt, get_or-replicate, get_or_past, length-replicate, Grid, sites, one_at, IsToppled, topplings, weight, sum_below_none, sum_below_both, sum_below-one_at, weight_after, laplacian_sum, sum_is_grains, weight_bound, underway_step, Advances, most_grains_on, heaviest, few_weigh, ap}
 
 pub topplings_at : (g : Grid) (i k : ℕ) → i < sites g → topplings g (λ j. k * one_at i j) ≡ k
 topplings_at g i k l = sum_below-one_at (sites g) i (λ j. k) l
@@ -35,9 +35,10 @@ zero_at n j u zeros = rw zeros elim (cases_lt j n) [
 ]
 
 -- at the start of a settling the topplings to come are few
-pub few_at_first : (g : Grid) (u : ℕ → ℕ) (h : List ℕ) → IsGrid g
-    → length h ≡ sites g → sum h ≤ most_grains → ((i : ℕ) → u i ≡ 0)
+pub few_at_first : (g : Grid) (u : ℕ → ℕ) (h : List ℕ)
+    → length h ≡ sites g → sum h ≤ most_grains_on g → ((i : ℕ) → u i ≡ 0)
     → 2 * topplings g u + weight g (λ j. get_or h j 0) < 2 ^ 55
-few_at_first g u h sides each limit none =
+few_at_first g u h each limit none =
     let zeros = sum_below_none (sites g) u (λ j l. none j) in
-    omega (arith, weight_bound g (λ j. get_or h j 0) sides, sum_is_grains g h each)
+    let heavy = ap (λ n. heaviest g * n) (sum_is_grains g h each) in
+    omega (arith, weight_bound g (λ j. get_or h j 0), few_weigh g (sum h) limit)

@@ -3,7 +3,7 @@
 use Rattle.std.specs.Prelude.{ℕ, ◌≡◌, ◌+◌, ◌-◌, ◌*◌, ◌<◌, ◌≤◌, List, [], ◌∷◌, All, length, sum, Option, IfSome, IsSome}
 use Rattle.sand_model.specs.Grid.{Grid, IsGrid, sites}
 use Rattle.sand_model.specs.Sand.{IsStable, IsSettled, one_at, occurrences, topplings, lost, weight}
-use Rattle.sand_model.specs.Piles.{PileView, IsPile, height_of, most_grains}
+use Rattle.sand_model.specs.Piles.{PileView, IsPile, height_of, most_grains, most_grains_on, heaviest}
 use Rattle.sand_settle.specs.Avalanches.{Avalanche, IsAvalanche}
 use Rattle.sand_settle.specs.Settling.{SettledView, IsSettledRecord, odometer_of}
 
@@ -20,7 +20,7 @@ grid_of_driven v = v.settled.pile.grid
 pub record IsAfter (start : PileView) (history : List ℕ) (v : DrivenView) : Type 0 where
   pub start_pile : IsPile start
   pub all_sites : All (λ j. j < sites start.grid) history
-  pub limit : sum start.heights + length history ≤ most_grains
+  pub limit : sum start.heights + length history ≤ most_grains_on start.grid
   pub settled : IsSettledRecord start.grid (λ j. height_of start j + occurrences history j) v.settled
   pub number : v.number ≡ length history
   pub grains : v.grains ≡ sum start.heights + length history
@@ -43,7 +43,7 @@ pub record TakesGrain (r : SettledView) (site : ℕ) (q : SettledView) : Type 0 
 -- a drop at a site leads from v to w
 pub record Drops (v : DrivenView) (site : ℕ) (w : DrivenView) : Type 0 where
   pub inside : site < sites (grid_of_driven v)
-  pub room : v.grains < most_grains
+  pub room : v.grains < most_grains_on (grid_of_driven v)
   pub settled : TakesGrain v.settled site w.settled
   pub number : w.number ≡ v.number + 1
   pub grains : w.grains ≡ v.grains + 1
@@ -71,9 +71,10 @@ pub record IsPaid (r : SettledView) : Type 0 where
   pub heights_each : length r.pile.heights ≡ sites r.pile.grid
   pub odometer_each : length r.odometer ≡ sites r.pile.grid
   pub stable : IsStable r.pile.grid (height_of r.pile)
-  pub limit : sum r.pile.heights + r.lost ≤ most_grains
+  pub limit : sum r.pile.heights + r.lost ≤ most_grains_on r.pile.grid
   pub all_topplings : r.topplings ≡ topplings r.pile.grid (odometer_of r)
-  pub paid : 2 * r.topplings + weight r.pile.grid (height_of r.pile) ≤ 16512 * (sum r.pile.heights + r.lost)
+  pub paid : 8 * r.topplings + 4 * weight r.pile.grid (height_of r.pile)
+      ≤ heaviest r.pile.grid * (sum r.pile.heights + r.lost)
 
 -- a record, seen with the grains that are on the pile or were lost
 abbrev pub driven_view : SettledView → ℕ → DrivenView

@@ -2,12 +2,12 @@
 //!
 //! All memory is allocated with the pile, so no drop allocates. A drop topples 64 sites a step (`sand_fronts`). Its
 //! result is the settled record of the start and the drops, by the same definitions (`IsAfter`, `Drops`,
-//! `IsAvalanche`). No count overflows, because of the weight: a grain weighs at most 16,512, and a toppling takes 2
+//! `IsAvalanche`). No count overflows, because of the weight: each grain weighs little, and a toppling takes 2
 //! (`IsPaid`).
 
-ghost use Rattle.std.specs.Prelude.{◌≡◌, ℕ, ◌+◌, ◌^◌, ◌<◌, ◌↔◌, List, [], ◌∷◌, ◌++◌, length, sum, slice_index, IfOk, OnOk, OnErr, IfErr, IsOkUnless, alloc_error};
+ghost use Rattle.std.specs.Prelude.{◌≡◌, ℕ, ◌+◌, ◌^◌, ◌<◌, ◌≤◌, ◌↔◌, List, [], ◌∷◌, ◌++◌, length, sum, slice_index, IfOk, OnOk, OnErr, IfErr, IsOkUnless, alloc_error};
 ghost use Rattle.sand_model.specs.Grid.{sites};
-ghost use Rattle.sand_model.specs.Piles.{PileView, height_of, most_grains};
+ghost use Rattle.sand_model.specs.Piles.{PileView, height_of, most_grains, most_grains_on};
 ghost use Rattle.sand_settle.specs.Avalanches.{IsAvalanche};
 ghost use Rattle.sand_settle.specs.Settling.{odometer_of};
 ghost use Rattle.sand_settle.specs.Drops.{grid_of_driven, topplings_between, IsAfter, Drops, IsPaid, driven_view};
@@ -19,7 +19,7 @@ use crate::near::write_near;
 use crate::settled::Settled;
 use crate::settling::settle;
 use sand_fronts::{Avalanche, TiledPile};
-use sand_model::{GRAIN_LIMIT, Pile, Shape};
+use sand_model::{Pile, Shape};
 use std::alloc::{AllocError, Global};
 use std::marker::Model;
 
@@ -101,7 +101,7 @@ impl DrivenPile {
         ensures after { OnOk result ((start : PileView) (history : List ℕ) → IsAfter start history self.old
             → IsAfter start (history ++ site ∷ []) self.new) }
 
-        ensures full { (result ≡ Err OneFault.Full) ↔ (self.old.grains ≡ most_grains) }
+        ensures full { (result ≡ Err OneFault.Full) ↔ (self.old.grains ≡ most_grains_on (grid_of_driven self.old)) }
         ensures err { OnErr result (self.new ≡ self.old) }
         ensures no_other { IfErr result (λ e. e ≡ OneFault.Full) }
     {
@@ -119,12 +119,12 @@ impl DrivenPile {
         requires { site < sites (grid_of_driven self.old) }
         ensures dropped { IfOk result (λ r. HasDropped self.old site r.0 r.1 self.new) }
         ensures waves { IfOk result (λ r. HasDroppedInWaves self.old site r.2 r.1 sizes.old sizes.new self.new) }
-        ensures full { (result ≡ Err OneFault.Full) ↔ (self.old.grains ≡ most_grains) }
+        ensures full { (result ≡ Err OneFault.Full) ↔ (self.old.grains ≡ most_grains_on (grid_of_driven self.old)) }
         ensures err { OnErr result (self.new ≡ self.old) }
         ensures no_other { IfErr result (λ e. e ≡ OneFault.Full) }
         ensures sizes { OnErr result (sizes.new ≡ sizes.old) }
     {
-        if self.grains == GRAIN_LIMIT {
+        if self.grains == self.limit() {
             return Err(OneFault::Full);
         }
         let (avalanche, waves) = self.fronts.drop_with_waves(site, sizes);
@@ -134,6 +134,15 @@ impl DrivenPile {
         self.lost += avalanche.lost;
         self.grains += 1;
         Ok((number, avalanche, waves))
+    }
+
+    // The most grains of the start and the drops.
+    #[inline(always)]
+    fn limit(&self) -> u64
+        ensures value { result ≡ most_grains_on (grid_of_driven self.now) }
+        ensures small { result ≤ most_grains }
+    {
+        self.shape().grain_limit()
     }
 
     pub fn shape(&self) -> Shape

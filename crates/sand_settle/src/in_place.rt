@@ -5,7 +5,7 @@
 
 ghost use Rattle.std.specs.Prelude.{◌≡◌, ℕ, ◌<◌, ◌≤◌, length, sum, slice_index, IfOk, IsTrue, OnErr};
 ghost use Rattle.sand_model.specs.Grid.{IsGrid, sites};
-ghost use Rattle.sand_model.specs.Piles.{most_grains};
+ghost use Rattle.sand_model.specs.Piles.{most_grains_on};
 ghost use Rattle.sand_settle.specs.InPlace.{record_in_place};
 ghost use Rattle.sand_settle.specs.Settling.{IsSettledRecord};
 
@@ -45,7 +45,7 @@ fn settle_light(
     requires sides { IsGrid shape }
     requires heights_each { length heights.old ≡ sites shape }
     requires odometer_each { length odometer.old ≡ sites shape }
-    requires limit { sum heights.old ≤ most_grains }
+    requires limit { sum heights.old ≤ most_grains_on shape }
     requires counted { grains ≡ sum heights.old }
     ensures record { IfOk result (λ t. IsSettledRecord shape (slice_index heights.old)
         (record_in_place shape heights.new odometer.new t)) }
@@ -69,7 +69,7 @@ fn settle_copy(
 ) -> Result<Totals, SettleFault>
     requires heights_each { length heights.old ≡ sites shape }
     requires odometer_each { length odometer.old ≡ sites shape }
-    requires limit { sum heights.old ≤ most_grains }
+    requires limit { sum heights.old ≤ most_grains_on shape }
     requires counted { grains ≡ sum heights.old }
     ensures record { IfOk result (λ t. IsSettledRecord shape (slice_index heights.old)
         (record_in_place shape heights.new odometer.new t)) }
@@ -97,7 +97,7 @@ pub fn settle_in_place(
 ) -> Result<Totals, SettleFault>
     requires heights_each { length heights.old ≡ sites shape }
     requires odometer_each { length odometer.old ≡ sites shape }
-    requires limit { sum heights.old ≤ most_grains }
+    requires limit { sum heights.old ≤ most_grains_on shape }
     ensures record { IfOk result (λ t. IsSettledRecord shape (slice_index heights.old)
         (record_in_place shape heights.new odometer.new t)) }
     ensures heights { OnErr result (heights.new ≡ heights.old) }

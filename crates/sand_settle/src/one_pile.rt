@@ -7,7 +7,7 @@
 
 ghost use Rattle.std.specs.Prelude.{◌≡◌, ℕ, ◌+◌, ◌^◌, ◌<◌, ◌≤◌, ◌↔◌, List, [], ◌∷◌, ◌++◌, length, sum, IfOk, IfErr, IsSome, IsOk, OnOk, OnErr, IsTrue, IsOkUnless, MatchOption, alloc_error};
 ghost use Rattle.sand_model.specs.Grid.{sites};
-ghost use Rattle.sand_model.specs.Piles.{PileView, height_of, most_grains};
+ghost use Rattle.sand_model.specs.Piles.{PileView, height_of, most_grains_on};
 ghost use Rattle.sand_settle.specs.Settling.{odometer_of};
 ghost use Rattle.sand_settle.specs.Avalanches.{IsAvalanche};
 ghost use Rattle.sand_settle.specs.Drops.{grid_of_driven, topplings_between, driven_view, IsAfter, Drops, IsPaid};
@@ -18,7 +18,7 @@ use crate::settled::Settled;
 use crate::settling::settle;
 use core::mem::replace_with;
 use sand_fronts::Avalanche;
-use sand_model::{GRAIN_LIMIT, Pile};
+use sand_model::Pile;
 use std::alloc::{AllocError, Global};
 use std::marker::Model;
 
@@ -47,7 +47,7 @@ fn drop_grain(settled: Settled, drop: (DrivenPile, usize)) -> (Settled, (DrivenP
     requires same { drop.0 ≡ driven_view settled drop.0.number }
     requires site { drop.1 < sites settled.pile.grid }
     requires paid { IsPaid settled }
-    requires room { drop.0.grains < most_grains }
+    requires room { drop.0.grains < most_grains_on (grid_of_driven drop.0) }
     ensures same { result.1.0 ≡ driven_view result.0 result.1.0.number }
     ensures drops { Drops drop.0 drop.1 result.1.0 }
     ensures avalanche { IsAvalanche settled.pile.grid drop.1 (topplings_between settled result.0) result.1.1 }
@@ -124,7 +124,7 @@ impl OnePile {
         ensures after { OnOk result ((start : PileView) (history : List ℕ) → IsAfter start history self.old
             → IsAfter start (history ++ site ∷ []) self.new) }
 
-        ensures full { (result ≡ Err OneFault.Full) ↔ (self.old.grains ≡ most_grains) }
+        ensures full { (result ≡ Err OneFault.Full) ↔ (self.old.grains ≡ most_grains_on (grid_of_driven self.old)) }
         ensures err { OnErr result (self.new ≡ self.old) }
 
         // The memory of the first drop serves all later ones.
@@ -142,11 +142,12 @@ impl OnePile {
     }
 
     fn is_full(&self) -> bool
-        ensures full { IsTrue result ↔ (self.now.grains ≡ most_grains) }
-        ensures limit { self.now.grains ≤ most_grains }
+        ensures full { IsTrue result ↔ (self.now.grains ≡ most_grains_on (grid_of_driven self.now)) }
+        ensures limit { self.now.grains ≤ most_grains_on (grid_of_driven self.now) }
     {
         let settled = self.settled();
-        settled.pile().grains() + settled.lost() == GRAIN_LIMIT
+        let limit = settled.pile().shape().grain_limit();
+        settled.pile().grains() + settled.lost() == limit
     }
 
     fn settled(&self) -> &Settled

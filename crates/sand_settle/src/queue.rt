@@ -15,7 +15,7 @@
 ghost use Rattle.std.specs.Prelude.{◌≡◌, ◌+◌, ◌*◌, ◌^◌, ◌<◌, ◌≤◌, length, sum, slice_index, IfOk, IsTrue, OnErr};
 ghost use Rattle.sand_model.specs.Grid.{sites};
 ghost use Rattle.sand_model.specs.Sand.{IsSettled, topplings, weight};
-ghost use Rattle.sand_model.specs.Piles.{most_grains};
+ghost use Rattle.sand_model.specs.Piles.{most_grains, most_grains_on};
 ghost use Rattle.sand_model.specs.Underway.{Advances};
 ghost use Rattle.sand_settle.specs.SiteLists.{ListsUnstable};
 
@@ -57,7 +57,7 @@ fn topple_generation(
 }
 
 fn list_unstable(heights: &[u64], generation: &mut IndexList)
-    requires fits { length heights.now ≤ 65536 }
+    requires fits { length heights.now ≤ 67108864 }
     requires room { length heights.now < generation.old.room }
     ensures waiting { ListsUnstable (length heights.now) heights.now generation.new.items }
     ensures room { generation.new.room ≡ generation.old.room }
@@ -80,7 +80,7 @@ fn topple_generations(
 ) -> bool
     requires heights_each { length heights.old ≡ sites lattice.now }
     requires counts_each { length counts.old ≡ sites lattice.now }
-    requires limit { sum heights.old ≤ most_grains }
+    requires limit { sum heights.old ≤ most_grains_on lattice.now }
     requires generation_room { sites lattice.now + 4 ≤ generation.room }
     requires next_room { sites lattice.now + 4 ≤ next.room }
     ensures settled { IsTrue result
@@ -113,7 +113,7 @@ pub(crate) fn topple_to_rest(
 ) -> Result<bool, AllocError>
     requires heights_each { length heights.old ≡ sites shape }
     requires counts_each { length counts.old ≡ sites shape }
-    requires limit { sum heights.old ≤ most_grains }
+    requires limit { sum heights.old ≤ most_grains_on shape }
     ensures settled { IfOk result (λ b. IsTrue b
         → IsSettled shape (slice_index heights.old) (slice_index counts.new) (slice_index heights.new)) }
     ensures ends { 2 ^ 54 ≤ budget → IfOk result (λ b. IsTrue b) }

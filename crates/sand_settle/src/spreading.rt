@@ -8,7 +8,7 @@ ghost use Rattle.sand_settle.specs.Underway.{NeighboursGain};
 
 use sand_model::{IndexList, Lattice, TOPPLING_HEIGHT};
 
-/// Does nothing at run time. It tells the proof that no side of the grid is above 256: there are at most 65,536 sites,
+/// Does nothing at run time. It tells the proof that no side of the grid is above 8,192: there are at most 2^26 sites,
 /// so each fits into 32 bits.
 #[inline(always)]
 pub(crate) fn knows_sides(lattice: &Lattice)
@@ -22,7 +22,7 @@ pub(crate) fn knows_sides(lattice: &Lattice)
 fn deliver(heights: &mut [u64], list: &mut IndexList, neighbour: Option<usize>, times: u64)
     requires inside { IfSome neighbour (λ j. j < length heights.old) }
     requires limit { sum heights.old + times < 2 ^ 63 }
-    requires fits { length heights.old ≤ 65536 }
+    requires fits { length heights.old ≤ 67108864 }
     requires room { length list.old.items < list.old.room }
     ensures each { (j : ℕ)
         → slice_index heights.new j ≡ slice_index heights.old j + times * value_at (λ k. one_at k j) neighbour }
@@ -43,7 +43,7 @@ fn deliver(heights: &mut [u64], list: &mut IndexList, neighbour: Option<usize>, 
 fn deliver_four(heights: &mut [u64], list: &mut IndexList, around: [Option<usize>; 4], times: u64)
     requires inside { (k : ℕ) → IfSome (slice_index_or around k None) (λ j. j < length heights.old) }
     requires limit { sum heights.old + 4 * times < 2 ^ 63 }
-    requires fits { length heights.old ≤ 65536 }
+    requires fits { length heights.old ≤ 67108864 }
     requires room { length list.old.items + 4 ≤ list.old.room }
     ensures each { (g : Grid) (site : ℕ) → around ≡ places g site → site < sites g
         → NeighboursGain g site times heights.old heights.new }

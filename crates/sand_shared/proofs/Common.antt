@@ -12,7 +12,7 @@ pub use Rattle.std.proofs.Math.ListN.{get_or-eq_default}
 pub use Rattle.std.proofs.lemmas.Grind.{common_steps, same_number_lists}
 pub use Rattle.sand_model.specs.Grid.{Grid, sites, neighbours, IsGrid, missing, places}
 pub use Rattle.sand_model.specs.Sand.{grains, occurrences, IsToppled, Stabilises, one_at, IsSettled, IsUnderway, flow, grain_weight, lost, topplings}
-pub use Rattle.sand_model.specs.Piles.{PileView, IsPile, height_of, most_grains}
+pub use Rattle.sand_model.specs.Piles.{PileView, IsPile, height_of, most_grains, most_grains_on}
 pub use Rattle.sand_model.proofs.SumsBelow.{sum_below-add, sum_below_same, sum_below_le}
 pub use Rattle.sand_model.proofs.Occurrences.{sum_below-occurrences, occurrences-cons, occurrences-push, occurrences-append}
 pub use Rattle.sand_model.proofs.Heights.{sum_is_grains, counted, get_or-written}

@@ -1,7 +1,7 @@
 -- A pass that has gathered everything: its history and its record. If it has swept until nothing toppled, the heights
 -- of the last open pile are the settled pile of the start and all drops, and its counts are the least odometer. If one
 -- thread settles the rest, the counts plus the odometer of the rest are that odometer.
-use Rattle.sand_shared.proofs.Common.{◌≡◌, ℕ, ◌+◌, ◌-◌, ◌<◌, ◌≤◌, List, All, length, sum, sym, refl, ap, ◌∙◌, subst, arith, slice_index, Me, sites, Grid, IsToppled, occurrences, IsSettled, IsUnderway, grains, height_of, most_grains, PileView, settled_same, laplacian_sum, settles_after, odometer_of, SettledView, IsSettledRecord, Inside, View, Receipt, Terms, nobody, grid_of_terms, receipts_for, toppled_by, start_and_drawn, shown, IsBare, PassView, SharedView, AllBelow, IsPass, IsPassOf, IsWhole, at_rest, looked, RecordView, Tells, IsLast, IsOneThreads, IsRecordOf, IsCompleted, Stands, HasAll, IsCalm, start_and_receipts, with_counts, IsRestOf, sum_below_same, sum_is_grains, topplings_bound, at_most_sum_below}
+use Rattle.sand_shared.proofs.Common.{◌≡◌, ℕ, ◌+◌, ◌-◌, ◌<◌, ◌≤◌, List, All, length, sum, sym, refl, ap, ◌∙◌, subst, arith, slice_index, Me, sites, Grid, IsToppled, occurrences, IsSettled, IsUnderway, grains, height_of, most_grains_on, PileView, settled_same, laplacian_sum, settles_after, odometer_of, SettledView, IsSettledRecord, Inside, View, Receipt, Terms, nobody, grid_of_terms, receipts_for, toppled_by, start_and_drawn, shown, IsBare, PassView, SharedView, AllBelow, IsPass, IsPassOf, IsWhole, at_rest, looked, RecordView, Tells, IsLast, IsOneThreads, IsRecordOf, IsCompleted, Stands, HasAll, IsCalm, start_and_receipts, with_counts, IsRestOf, sum_below_same, sum_is_grains, topplings_bound, at_most_sum_below}
 use Rattle.sand_model.specs.Sand.{topplings as topplings_of, lost as lost_of}
 use Rattle.sand_model.proofs.Underway.{underway_end}
 use Rattle.sand_shared.proofs.GrainsAtSite.{toppled_from}
@@ -14,7 +14,7 @@ use Rattle.sand_shared.proofs.Lawfulness.{few_grains}
 -- a history is that of some receipts on a pile with these terms
 pub record HasHistory (t : Terms) (receipts : List Receipt) (history : List ℕ) : Type 0 where
   pub all_sites : All (λ i. i < sites (grid_of_terms t)) history
-  pub limit : sum t.start.heights + length history ≤ most_grains
+  pub limit : sum t.start.heights + length history ≤ most_grains_on t.start.grid
   pub by_site : (i : ℕ) → occurrences history i ≡ receipts_for receipts i
 
 module _ {t : Terms} {a : ℕ} {v : View} (s : Stands t a v) (all : HasAll t v) where
@@ -138,7 +138,7 @@ module _ {t : Terms} {p : PassView} {counts heights : List ℕ} {a spot least : 
       }
 
 module _ {t : Terms} {a : ℕ} {v : View} (s : Stands t a v) (all : HasAll t v) where
-  laid_few : grains (grid_of_terms t) (start_and_receipts t v) ≤ most_grains
+  laid_few : grains (grid_of_terms t) (start_and_receipts t v) ≤ most_grains_on (grid_of_terms t)
   laid_few =
       let g = grid_of_terms t in
       let p = s.pile in
@@ -149,7 +149,7 @@ module _ {t : Terms} {a : ℕ} {v : View} (s : Stands t a v) (all : HasAll t v) 
   pub left_few : (u : ℕ → ℕ) (heights : List ℕ)
       → length heights ≡ sites (grid_of_terms t)
       → IsToppled (grid_of_terms t) (start_and_receipts t v) u (slice_index heights)
-      → sum heights ≤ most_grains
+      → sum heights ≤ most_grains_on (grid_of_terms t)
   left_few u heights long toppled =
       let few = laid_few in
       let out = laplacian_sum (grid_of_terms t) (start_and_receipts t v) u (slice_index heights) toppled in
@@ -179,7 +179,7 @@ completed_leads {t = t} {p = p} {r = r} b s rest history each told =
     let u : ℕ → ℕ = λ i. slice_index p.counts i + odometer_of r i in
     let h = gathered_history b s refl history each told in
     let bound = topplings_bound g (start_and_receipts t (at_rest p)) u (height_of r.pile)
-    s.terms.pile.grid (laid_few s (gathers_all b s refl)) rest.settled.toppled in
+    (laid_few s (gathers_all b s refl)) rest.settled.toppled in
     record {
       all_sites = h.all_sites;
       limit = h.limit;

@@ -44,7 +44,7 @@ module _ (t : Terms) (p : OpenPile) (r : IsLawful t p) (a : ℕ) (there : a < le
       let v = pass_at p a in
       let all = few_grains t p terms r in
       let bound =
-      topplings_bound g (start_and_drawn t p) (toppled p) (present p) terms.pile.grid (omega arith) r.balance in
+      topplings_bound g (start_and_drawn t p) (toppled p) (present p) (omega arith) r.balance in
       let mine = sum_below_le (sites g) (toppled_by v) (toppled p)
       (λ j _. get_or-le-sum_by (λ (u : View). toppled_by u j) p.passes a nobody there) in
       let counts = sum_counts v (sites g) fits in omega arith

@@ -1,12 +1,12 @@
 -- The sums in a record are right, and small.
-use Rattle.sand_shared.proofs.Common.{◌≡◌, ℕ, ◌+◌, ◌-◌, ◌*◌, ◌^◌, ◌<◌, ◌≤◌, List, ◌++◌, All, length, sum, sym, ap, ◌∙◌, subst, arith, length-append, slice_index, get_or-eq_default, mul-add, get_or-le-sum_by, All-append, Grid, sites, missing, IsSettled, lost, occurrences, topplings, PileView, IsPile, height_of, most_grains, sum_below-add, sum_below_same, occurrences-append, sum_is_grains, laplacian_sum, settled_in_parts, topplings_bound, SettledView, IsSettledRecord, IsSomeSettledRecord, odometer_of, RecordView, IsOneThreads}
+use Rattle.sand_shared.proofs.Common.{◌≡◌, ℕ, ◌+◌, ◌-◌, ◌*◌, ◌^◌, ◌<◌, ◌≤◌, List, ◌++◌, All, length, sum, sym, ap, ◌∙◌, subst, arith, length-append, slice_index, get_or-eq_default, mul-add, get_or-le-sum_by, All-append, Grid, sites, missing, IsSettled, lost, occurrences, topplings, PileView, IsPile, height_of, most_grains, most_grains_on, sum_below-add, sum_below_same, occurrences-append, sum_is_grains, laplacian_sum, settled_in_parts, topplings_bound, SettledView, IsSettledRecord, IsSomeSettledRecord, odometer_of, RecordView, IsOneThreads}
 use Rattle.sand_shared.proofs.Balance.{grains_in_all}
 
 -- a start and a history, with the heights and the odometer that they lead to
 pub record LeadsTo (start : PileView) (history heights odometer : List ℕ) : Type 0 where
   pub pile : IsPile start
   pub all_sites : All (λ i. i < sites start.grid) history
-  pub limit : sum start.heights + length history ≤ most_grains
+  pub limit : sum start.heights + length history ≤ most_grains_on start.grid
   pub heights_each : length heights ≡ sites start.grid
   pub odometer_each : length odometer ≡ sites start.grid
   pub settled : IsSettled start.grid (λ i. height_of start i + occurrences history i)
@@ -18,7 +18,7 @@ module _ {start : PileView} {history heights odometer : List ℕ} (l : LeadsTo s
       let g = start.grid in
       let all = grains_in_all start history l.pile l.all_sites in
       let bound = topplings_bound g (λ i. height_of start i + occurrences history i)
-      (slice_index odometer) (slice_index heights) l.pile.grid (omega arith) l.settled.toppled in
+      (slice_index odometer) (slice_index heights) (omega arith) l.settled.toppled in
       let counts = sum_is_grains g odometer l.odometer_each in omega arith
 
   -- each grain is on the pile or lost
@@ -57,7 +57,7 @@ module _ {start : PileView} {history heights odometer : List ℕ} (l : LeadsTo s
       }
 
 leads_of : (r : RecordView) → IsPile r.start → All (λ i. i < sites r.start.grid) r.history
-    → sum r.start.heights + length r.history ≤ most_grains
+    → sum r.start.heights + length r.history ≤ most_grains_on r.start.grid
     → IsSettledRecord r.start.grid (λ i. height_of r.start i + occurrences r.history i) r.settled
     → LeadsTo r.start r.history r.settled.pile.heights r.settled.odometer
 leads_of r pile inside limit settled = record {
@@ -71,7 +71,7 @@ leads_of r pile inside limit settled = record {
 
 -- the settled record of a start and a history keeps all grains
 pub is_one_threads : (r : RecordView) → IsPile r.start → All (λ i. i < sites r.start.grid) r.history
-    → sum r.start.heights + length r.history ≤ most_grains
+    → sum r.start.heights + length r.history ≤ most_grains_on r.start.grid
     → IsSettledRecord r.start.grid (λ i. height_of r.start i + occurrences r.history i) r.settled
     → IsOneThreads r
 is_one_threads r pile inside limit settled =
@@ -105,7 +105,7 @@ pub record AreJoined (r q : RecordView) (sums : List ℕ) : Type 0 where
   pub first : IsOneThreads r
   pub second : IsOneThreads q
   pub joint : q.start ≡ r.settled.pile
-  pub limit : sum r.start.heights + (length r.history + length q.history) ≤ most_grains
+  pub limit : sum r.start.heights + (length r.history + length q.history) ≤ most_grains_on r.start.grid
   pub len : length sums ≡ length r.settled.odometer
   pub each : (i : ℕ) → i < length q.settled.odometer
       → slice_index sums i ≡ odometer_of r.settled i + odometer_of q.settled i

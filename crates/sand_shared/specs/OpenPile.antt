@@ -4,7 +4,7 @@ use Rattle.std.specs.Prelude.{ℕ, Bool, true, ◌≡◌, ◌+◌, ◌-◌, ◌<
 use Rattle.sand_model.specs.Grid.{Grid, sites}
 use Rattle.sand_model.specs.Sand.{occurrences, flow, IsToppled, Stabilises}
 use Rattle.sand_model.specs.Lists.{one_if}
-use Rattle.sand_model.specs.Piles.{IsPile, height_of, most_grains}
+use Rattle.sand_model.specs.Piles.{IsPile, height_of, most_grains, most_grains_on}
 use Rattle.sand_shared.specs.declared.view.Receipt.{Receipt}
 use Rattle.sand_shared.specs.declared.view.Grains.{Grains}
 use Rattle.sand_shared.specs.declared.view.View.{View}
@@ -22,7 +22,7 @@ grid_of_terms t = t.start.grid
 -- a start and a quota, which together stay within the limit
 pub record AreTerms (t : Terms) : Type 0 where
   pub pile : IsPile t.start
-  pub limit : sum t.start.heights + t.quota ≤ most_grains
+  pub limit : sum t.start.heights + t.quota ≤ most_grains_on t.start.grid
 
 -- What a pass has
 

@@ -2,7 +2,7 @@
 use Rattle.std.specs.Prelude.{ℕ, ◌≡◌, ◌+◌, ◌^◌, ◌<◌, ◌≤◌, Some, List, All, length, sum, slice_get, slice_index}
 use Rattle.sand_model.specs.Grid.{sites}
 use Rattle.sand_model.specs.Sand.{IsSettled, occurrences}
-use Rattle.sand_model.specs.Piles.{PileView, IsPile, height_of, most_grains}
+use Rattle.sand_model.specs.Piles.{PileView, IsPile, height_of, most_grains_on}
 use Rattle.sand_settle.specs.Settling.{SettledView, IsSettledRecord, odometer_of}
 use Rattle.sand_shared.specs.declared.view.Receipt.{Receipt}
 use Rattle.sand_shared.specs.declared.view.View.{View}
@@ -22,7 +22,7 @@ pub record RecordView : Type 0 where
 pub record IsOneThreads (r : RecordView) : Type 0 where
   pub start_pile : IsPile r.start
   pub all_sites : All (λ i. i < sites r.start.grid) r.history
-  pub limit : sum r.start.heights + length r.history ≤ most_grains
+  pub limit : sum r.start.heights + length r.history ≤ most_grains_on r.start.grid
   pub settled : IsSettledRecord r.start.grid (λ i. height_of r.start i + occurrences r.history i) r.settled
   -- each grain is on the settled pile or lost
   pub kept : r.settled.lost + sum r.settled.pile.heights ≡ sum r.start.heights + length r.history
@@ -51,7 +51,7 @@ pub record IsRecordOf (t : Terms) (p : PassView) (r : RecordView) : Type 0 where
 -- is the settled pile
 pub record IsCompleted (start : PileView) (history counts : List ℕ) (rest : SettledView) : Type 0 where
   pub all_sites : All (λ i. i < sites start.grid) history
-  pub limit : sum start.heights + length history ≤ most_grains
+  pub limit : sum start.heights + length history ≤ most_grains_on start.grid
   pub heights_each : length rest.pile.heights ≡ sites start.grid
   pub counts_each : length counts ≡ sites start.grid
   pub odometer_each : length rest.odometer ≡ sites start.grid

@@ -14,7 +14,7 @@
 ghost use Rattle.std.specs.Prelude.{◌≡◌, ℕ, ◌+◌, ◌^◌, ◌<◌, ◌≤◌, ◌↔◌, [], length, sum, slice_index, vec_capacity, IfOk, IfErr, OnOk};
 ghost use Rattle.sand_model.specs.Grid.{sites};
 ghost use Rattle.sand_model.specs.Sand.{IsUnderway};
-ghost use Rattle.sand_model.specs.Piles.{height_of, most_grains};
+ghost use Rattle.sand_model.specs.Piles.{height_of, most_grains_on};
 ghost use Rattle.sand_settle.specs.Settling.{odometer_of};
 ghost use Rattle.sand_shared.specs.OpenPile.{grid_of_terms, toppled_by};
 ghost use Rattle.sand_shared.specs.Events.{looked};
@@ -47,7 +47,7 @@ impl Words {
         ensures seat { StaysSeated seat.old seat.new }
         ensures view { seat.new.me.0 ≡ looked seat.old.me.0 seat.new.me.0.spot seat.new.me.0.least }
         ensures len { length heights.new.items ≡ sites (grid_of_terms self.now.terms) }
-        ensures limit { sum heights.new.items ≤ most_grains }
+        ensures limit { sum heights.new.items ≤ most_grains_on (grid_of_terms self.now.terms) }
         ensures underway { IsUnderway (grid_of_terms self.now.terms) (start_and_receipts self.now.terms seat.old.me.0)
             (toppled_by seat.old.me.0) (slice_index heights.new.items) }
     {

@@ -7,7 +7,7 @@ ghost use Rattle.std.specs.Prelude.{◌≡◌, ℕ, ◌+◌, ◌<◌, ◌≤◌,
 ghost use Rattle.sand_model.specs.Grid.{sites};
 ghost use Rattle.sand_settle.specs.Settling.{odometer_of};
 ghost use Rattle.sand_shared.specs.Record.{IsOneThreads};
-ghost use Rattle.sand_model.specs.Piles.{most_grains};
+ghost use Rattle.sand_model.specs.Piles.{most_grains_on};
 
 use crate::completing::add;
 use crate::faults::SharedFault;
@@ -21,7 +21,7 @@ impl Record {
     pub fn append(&mut self, alloc: Global, next: &Record) -> Result<(), SharedFault>
         requires start { next.now.start ≡ self.old.settled.pile }
         requires limit { sum self.old.start.heights + (length self.old.history + length next.now.history)
-            ≤ most_grains }
+            ≤ most_grains_on self.old.start.grid }
         ensures one_threads { OnOk result (IsOneThreads self.new) }
         ensures start { OnOk result (self.new.start ≡ self.old.start) }
         ensures history { OnOk result (self.new.history ≡ self.old.history ++ next.now.history) }
@@ -48,7 +48,7 @@ impl Record {
     pub fn followed_by(&self, alloc: Global, next: &Record) -> Result<Record, SharedFault>
         requires start { next.now.start ≡ self.now.settled.pile }
         requires limit { sum self.now.start.heights + (length self.now.history + length next.now.history)
-            ≤ most_grains }
+            ≤ most_grains_on self.now.start.grid }
         ensures one_threads { IfOk result IsOneThreads }
         ensures start { IfOk result (λ r. r.start ≡ self.now.start) }
         ensures history { IfOk result (λ r. r.history ≡ self.now.history ++ next.now.history) }

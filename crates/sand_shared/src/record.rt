@@ -2,7 +2,7 @@
 
 ghost use Rattle.std.specs.Prelude.{◌≡◌, ◌+◌, ◌^◌, ◌<◌, ◌≤◌, All, IfOk, IsOkUnless, alloc_error, length, sum, slice_index};
 ghost use Rattle.sand_model.specs.Grid.{sites};
-ghost use Rattle.sand_model.specs.Piles.{height_of, most_grains};
+ghost use Rattle.sand_model.specs.Piles.{height_of, most_grains_on};
 ghost use Rattle.sand_model.specs.Sand.{IsSettled, occurrences};
 ghost use Rattle.sand_settle.specs.Settling.{odometer_of};
 ghost use Rattle.sand_shared.specs.Record.{IsOneThreads};
@@ -52,7 +52,7 @@ impl Record {
         odometer: Vec<u64>,
     ) -> Record
         requires all_sites { All (λ i. i < sites start.grid) history.items }
-        requires limit { sum start.heights + length history.items ≤ most_grains }
+        requires limit { sum start.heights + length history.items ≤ most_grains_on start.grid }
         requires len { (length heights.items ≡ sites start.grid) × (length odometer.items ≡ sites start.grid) }
         requires settled { IsSettled start.grid (λ i. height_of start i + occurrences history.items i)
             (slice_index odometer.items) (slice_index heights.items) }

@@ -5,7 +5,7 @@ ghost use Rattle.sand_model.specs.Grid.{sites};
 ghost use Rattle.sand_shared.specs.OpenPile.{grid_of_terms};
 ghost use Rattle.sand_shared.specs.Events.{receipt, zeros};
 ghost use Rattle.sand_shared.specs.Passes.{IsPassOf, IsWhole};
-ghost use Rattle.sand_model.specs.Piles.{most_grains};
+ghost use Rattle.sand_model.specs.Piles.{most_grains_on};
 
 use crate::bare_pass::BarePass;
 use crate::faults::{DropFault, SharedFault};
@@ -14,7 +14,7 @@ use crate::record::copy_of;
 use crate::rows::Rows;
 use crate::steps::Words;
 use crate::view::{Receipt, Terms};
-use sand_model::{GRAIN_LIMIT, Pile};
+use sand_model::Pile;
 use std::alloc::Global;
 use std::marker::{Brand, Model};
 
@@ -40,7 +40,7 @@ impl SharedPile {
     /// rows, has seen no drop and has no receipts. Returns TooManyGrains if the start and the quota together exceed the
     /// limit; else Memory if an allocation fails.
     pub fn new(alloc: Global, start: &Pile, quota: u64) -> Result<(SharedPile, Pass), SharedFault>
-        ensures limit { (result ≡ Err SharedFault.TooManyGrains) ↔ (most_grains < sum start.now.heights + quota) }
+        ensures limit { (result ≡ Err SharedFault.TooManyGrains) ↔ (most_grains_on start.now.grid < sum start.now.heights + quota) }
         ensures terms { IfOk result (λ r. r.0.terms ≡ record { start = start.now; quota = quota }) }
         ensures of_pile { IfOk result (λ r. IsPassOf r.0 r.1) }
         ensures pass { IfOk result (λ r. r.1 ≡ record {
@@ -53,10 +53,10 @@ impl SharedPile {
           counts = zeros (sites start.now.grid);
         }) }
     {
-        if quota > GRAIN_LIMIT - start.grains() {
+        let shape = start.shape();
+        if quota > shape.grain_limit() - start.grains() {
             return Err(SharedFault::TooManyGrains);
         }
-        let shape = start.shape();
         let receipts = Vec::with_capacity(alloc, quota as usize)?;
         let counts = vec![in alloc; 0u64; shape.sites()]?;
         let start = copy_of(alloc, start)?;

@@ -261,7 +261,7 @@ impl Words {
 
 // The heights of the sites, from the words of a closed table.
 fn read_heights(closed: &Closed<u8, Global>, sites: usize, heights: &mut Vec<u64>)
-    requires closed { (slots_len closed.now.words ≡ sites + 2) × IsFull closed.now.words × (sites ≤ 65536) }
+    requires closed { (slots_len closed.now.words ≡ sites + 2) × IsFull closed.now.words × (sites ≤ 67108864) }
     requires room { (heights.old.items ≡ []) × (sites ≤ vec_capacity heights.old) }
     ensures heights { (i : ℕ) → i < sites
         → slice_index heights.new.items i ≡ slice_index (slots_items closed.now.words) (i + 2) }

@@ -1,15 +1,18 @@
 //! The numbered streams of drop sites: ChaCha8 (Bernstein 2008) under a seed's key, read word by word.
 
-ghost use Rattle.std.specs.Prelude.{◌≡◌, ◌+◌, ◌<◌, ◌^◌, IfOk, IsOkUnless, alloc_error};
+ghost use Rattle.std.specs.Prelude.{◌≡◌, ◌+◌, ◌*◌, ◌<◌, ◌^◌, IfOk, IsOkUnless, alloc_error};
 ghost use Rattle.sand_model.specs.Grid.{sites};
-ghost use Rattle.sand_streams.specs.Streams.{key_bytes, key_of_seed, site_at, stream_of, stream_sites, Reading};
+ghost use Rattle.sand_streams.specs.Streams.{key_bytes, key_of_seed, site_at, stream_of, stream_sites, words_per_site, Reading};
 
 use rand_chacha::ChaCha8Rng;
 use rand_core::SeedableRng;
-use rand_core::utils::NextWord;
+use rand_core::utils::{NextWord, next_u64_via_u32};
 use sand_model::Shape;
 use std::alloc::{AllocError, Global};
 use std::marker::Model;
+
+// On a grid with more sites than these, a site takes two words of the stream.
+const ONE_WORD_SITES: u32 = 65_536;
 
 // The bytes of the seed, the low byte first, and zeros.
 #[tactic(auto, unfolding(crate::specs::Streams::key_bytes))]
@@ -40,7 +43,8 @@ pub fn words_of(seed: u64, stream: u64) -> ChaCha8Rng
     words
 }
 
-/// A stream of drop sites, read one by one.
+/// A stream of drop sites, read one by one. Each is a 32-bit word of the stream, or on more than 65,536 sites a number of
+/// 64 bits from two of its words, modulo the number of sites.
 #[derive(Drop)]
 pub struct SiteReader {
     words: ChaCha8Rng,
@@ -49,14 +53,20 @@ pub struct SiteReader {
 }
 
 impl Model for SiteReader {
-    ghost use Rattle.std.specs.Prelude.{◌≡◌, ◌<◌};
-    ghost use Rattle.sand_streams.specs.Streams.{key_of_seed, Reading};
+    ghost use Rattle.std.specs.Prelude.{◌≡◌, ◌<◌, ◌/◌, ◌%◌};
+    ghost use Rattle.sand_streams.specs.Streams.{key_of_seed, words_per_site, Reading};
 
     ghost Value = { Reading };
 
-    ghost view = { λ r. record { sites = r.sites; seed = r.seed; stream = r.words.stream; read = r.words.word_pos } };
+    ghost view = { λ r. record {
+      sites = r.sites;
+      seed = r.seed;
+      stream = r.words.stream;
+      read = r.words.word_pos / words_per_site r.sites;
+    } };
 
-    ghost invariant = { λ r. (0 < r.sites) × (r.words.key ≡ key_of_seed r.seed) };
+    ghost invariant = { λ r. (0 < r.sites) × (r.words.key ≡ key_of_seed r.seed)
+        × (r.words.word_pos % words_per_site r.sites ≡ 0) };
 }
 
 impl SiteReader {
@@ -75,24 +85,27 @@ impl SiteReader {
     pub fn go_to(&mut self, place: u64)
         ensures { self.new ≡ record self.old { read = place } }
     {
-        self.words.set_word_pos(u128::from(place));
+        let words = if self.sites <= ONE_WORD_SITES { 1 } else { 2 };
+        self.words.set_word_pos(u128::from(place) * words);
     }
 
     /// The next site of the stream.
-    #[tactic(auto, unfolding(crate::specs::Streams::stream_word))]
+    #[tactic(auto, unfolding(crate::specs::Streams::stream_word, crate::specs::Streams::stream_pair))]
     pub fn next_site(&mut self) -> usize
-        requires { self.old.read + 1 < 2 ^ 68 }
+        requires { words_per_site self.old.sites * (self.old.read + 1) < 2 ^ 68 }
         ensures site { result ≡ site_at self.old.sites self.old.seed self.old.stream self.old.read }
         ensures inside { result < self.old.sites }
         ensures read { self.new ≡ record self.old { read = self.old.read + 1 } }
     {
-        let word = self.words.next_word();
-        (word % self.sites) as usize
+        if self.sites <= ONE_WORD_SITES {
+            return (self.words.next_word() % self.sites) as usize;
+        }
+        let pair = next_u64_via_u32(&mut self.words);
+        (pair % u64::from(self.sites)) as usize
     }
 }
 
-/// The first `count` sites of a stream: its 32-bit words from place 0 on, modulo the number of sites of the shape.
-/// Fails only if an allocation fails.
+/// The first `count` sites of a stream. Fails only if an allocation fails.
 pub fn sites_of(
     alloc: Global,
     shape: Shape,

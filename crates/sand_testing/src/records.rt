@@ -3,12 +3,12 @@
 
 ghost use Rattle.std.specs.Prelude.{◌≡◌, ◌+◌, ◌≤◌, ◌<◌, length, sum, IfOk, IsTrue};
 ghost use Rattle.sand_model.specs.Grid.{sites};
-ghost use Rattle.sand_model.specs.Piles.{most_grains};
+ghost use Rattle.sand_model.specs.Piles.{most_grains_on};
 ghost use Rattle.sand_shared.specs.OpenPile.{grid_of_terms};
 ghost use Rattle.sand_shared.specs.Passes.{IsPassOf};
 
 use crate::piles::one_site;
-use sand_model::{GRAIN_LIMIT, Pile};
+use sand_model::Pile;
 use sand_settle::Settled;
 use sand_shared::{Pass, Record, SharedPile};
 use std::alloc::Global;
@@ -51,10 +51,12 @@ pub fn is_four(record: &Record) -> bool {
 pub fn may_follow(first: &Record, next: &Record) -> bool
     ensures start { IsTrue result → (next.now.start ≡ first.now.settled.pile) }
     ensures limit { IsTrue result
-        → sum first.now.start.heights + (length first.now.history + length next.now.history) ≤ most_grains }
+        → sum first.now.start.heights + (length first.now.history + length next.now.history)
+        ≤ most_grains_on first.now.start.grid }
 {
     let drops = first.history().len() + next.history().len();
-    let is_within_limit = first.start().grains() + drops as u64 <= GRAIN_LIMIT;
+    let limit = first.start().shape().grain_limit();
+    let is_within_limit = first.start().grains() + drops as u64 <= limit;
     next.start().equals(first.pile()) && is_within_limit
 }
 
@@ -94,7 +96,8 @@ pub fn dropped_on_a_site(alloc: Global, height: u64, drops: u64) -> Result<Recor
 pub fn one_more(alloc: Global, first: &Record) -> Result<Record, Fail>
     ensures start { IfOk result (λ r. r.start ≡ first.now.settled.pile) }
     ensures limit { IfOk result
-        (λ r. sum first.now.start.heights + (length first.now.history + length r.history) ≤ most_grains) }
+        (λ r. sum first.now.start.heights + (length first.now.history + length r.history)
+        ≤ most_grains_on first.now.start.grid) }
 {
     let next = dropped_on(alloc, first.pile(), 1)?;
     if !may_follow(first, &next) {

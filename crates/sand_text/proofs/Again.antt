@@ -1,7 +1,9 @@
 -- The written text of a pile is read as the same pile.
 use Rattle.std.proofs.lemmas.Grind.{pieces}
-use Rattle.sand_text.proofs.Common.{◌≡◌, ℕ, zero, suc, ◌+◌, ◌*◌, ◌<◌, ◌≤◌, ◌^◌, List, [], ◌∷◌, ◌++◌, length, take, drop, None, decimal, refl, ◌∙◌, ap, arith, append_assoc, length-drop, zero-mul, suc-mul, mul_comm, ◌&&◌, ltb, eq-eqb, not, true, false, cond, eqb, min, subst, Ok, if◌then◌else◌, ◌==◌, All, digits_value, take-append-drop, take_all, nil_from_length, position_or_len_is, get_or-le-sum_by, decimal_is_IsNumeral, decimal_nonempty, nat_tests, Edge, Open, Cylinder, Grid, IsGrid, grid_with_edge, joins, PileView, IsPile, most_grains, Token, Number, is_digit, is_other, is_space, digits_len, tokens_at, tokens, numbers, edge_text, text_of, usual}
+use Rattle.sand_text.proofs.Common.{◌≡◌, ℕ, zero, suc, ◌+◌, ◌*◌, ◌<◌, ◌≤◌, ◌^◌, List, [], ◌∷◌, ◌++◌, length, take, drop, None, decimal, refl, ◌∙◌, ap, arith, append_assoc, length-drop, zero-mul, suc-mul, mul_comm, ◌&&◌, ltb, eq-eqb, not, true, false, cond, eqb, min, subst, Ok, Err, if◌then◌else◌, ◌==◌, All, digits_value, take-append-drop, take_all, nil_from_length, position_or_len_is, get_or-le-sum_by, decimal_is_IsNumeral, decimal_nonempty, nat_tests, Edge, Open, Cylinder, Grid, IsGrid, grid_with_edge, joins, is_side, PileView, IsPile, most_grains, Token, Number, is_digit, is_other, is_space, digits_len, tokens_at, tokens, numbers, edge_text, text_of, usual}
 use Rattle.std.proofs.lemmas.List.Elements.{All-tail, All-weaker}
+use Rattle.sand_model.specs.declared.faults.ShapeFault.TheVariants as shape_faults
+use Rattle.sand_text.specs.Laws.{ReadAgain}
 use Rattle.sand_text.specs.Tokens.{token_of, tokens_from, first_strange, first_large, edge_behind}
 use Rattle.sand_text.specs.Texts.{row_text, rows_text}
 use Rattle.sand_text.specs.Reading.{front_of, pile_of}
@@ -112,10 +114,11 @@ text_again p h =
 wide_enough : (e : Edge) (w : ℕ) → (joins e ≡ true → 3 ≤ w) → (joins e && ltb w 3) ≡ false
 wide_enough e w h = grind (arith, usual)
 
--- the sides and the edge of a grid make the same grid
-grid_again : (g : Grid) → IsGrid g → grid_with_edge g.width g.height g.edge ≡ Ok g
+-- the sides and the edge of a grid make the same grid, if they are those of a text
+grid_again : (g : Grid) → IsGrid g
+    → grid_with_edge g.width g.height g.edge ≡ (if is_side g.width && is_side g.height then Ok g else Err shape_faults.Side)
 grid_again g h = grind (arith, usual, wide_enough)
 
-pub again : (p : PileView) → IsPile p → pile_of (text_of p) ≡ Ok p
+pub again : ReadAgain
 unfolding pile_of front_of
 again p h = grind (arith, usual, text_again, eq-eqb, take_all, not_large, grid_again)

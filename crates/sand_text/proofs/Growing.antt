@@ -1,5 +1,5 @@
 -- A text that is written in blocks grows part by part, and writing may fail in one of them.
-use Rattle.sand_text.proofs.Common.{◌≡◌, ℕ, ◌+◌, List, [], ◌++◌, length, take, length-append, append-nil, append_assoc, sym, ◌∙◌, ap, arith, subst, take-append-add, Option, Appends, Appends-nil, Appends-trans, take-append-le, usual}
+use Rattle.sand_text.proofs.Common.{◌≡◌, ℕ, ◌+◌, List, [], ◌++◌, length, take, length-append, append-nil, append_assoc, refl, sym, ◌∙◌, ap, arith, subst, take-append-add, Option, Appends, Appends-nil, Appends-trans, take-append-le, usual}
 use Rattle.sand_text.specs.declared.fault.StreamFault.{StreamFault}
 use Rattle.sand_text.specs.declared.fault.StreamFault.TheVariants.{Write}
 use Rattle.sand_text.specs.Blocks.{BreaksIn, GrowsBy, Waiting}
@@ -54,3 +54,34 @@ breaks_within held mid held' b c p q rest whole fault all first broken =
     let broken : BreaksIn held held' b ((p ++ q) ++ rest) fault =
     breaks_before held held' b (p ++ q) rest fault (breaks_on held mid held' b c p q fault first broken) in
     subst (λ t. BreaksIn held held' b t fault) (append_assoc p q rest ∙ all) broken
+
+-- the text grew by a whole except for what is left of it
+pub record GrowsUpTo (held held' : Option (List ℕ)) (b b' : Waiting) (left whole : List ℕ) : Type 0 where
+  pub added : List ℕ
+  pub all : added ++ left ≡ whole
+  pub grown : GrowsBy held held' b b' added
+
+pub nothing_added : (held : Option (List ℕ)) (b : Waiting) (whole : List ℕ) → GrowsUpTo held held b b whole whole
+nothing_added held b whole = record { added = []; all = refl; grown = stays held b }
+
+pub all_added : (held held' : Option (List ℕ)) (b c : Waiting) (whole : List ℕ)
+    → GrowsUpTo held held' b c [] whole → GrowsBy held held' b c whole
+all_added held held' b c whole before =
+    subst (GrowsBy held held' b c) (sym (append-nil before.added) ∙ before.all) before.grown
+
+-- the next part of what is left is added
+pub part_added : {held mid held' : Option (List ℕ)} {b c d : Waiting} {left p rest whole : List ℕ}
+    → GrowsUpTo held mid b c left whole → left ≡ p ++ rest → GrowsBy mid held' c d p → GrowsUpTo held held' b d rest whole
+part_added {held} {mid} {held'} {b} {c} {d} {left} {p} {rest} before next grown = record {
+  added = before.added ++ p;
+  all = append_assoc before.added p rest ∙ ap (λ t. before.added ++ t) (sym next) ∙ before.all;
+  grown = grows_on held mid held' b c d before.added p before.grown grown;
+}
+
+-- the writer fails in it
+pub part_breaks : {held mid held' : Option (List ℕ)} {b c : Waiting} {p whole : List ℕ} {fault : StreamFault}
+    (left rest : List ℕ) → GrowsUpTo held mid b c left whole → left ≡ p ++ rest → BreaksIn mid held' c p fault
+    → BreaksIn held held' b whole fault
+part_breaks {held} {mid} {held'} {b} {c} {p} {whole} {fault} left rest before next broken =
+    breaks_within held mid held' b c before.added p rest whole fault
+    (ap (λ t. before.added ++ t) (sym next) ∙ before.all) before.grown broken

@@ -112,10 +112,10 @@ digit_plain b e = grind (arith, nat_tests)
 number_plain : (n : ℕ) → n < 2 ^ 64 → All IsPlain (decimal n)
 number_plain n small = All-weaker (λ b. is_digit b ≡ true) IsPlain digit_plain (decimal n) (only_digits n small)
 
-sides_line : (w h : ℕ) → w ≤ 256 → h ≤ 256 → IsLines ((decimal w ++ 32 ∷ decimal h) ++ 10 ∷ [])
+sides_line : (w h : ℕ) → w ≤ 8192 → h ≤ 8192 → IsLines ((decimal w ++ 32 ∷ decimal h) ++ 10 ∷ [])
 sides_line w h wide high =
-    let width_len : length (decimal w) ≤ 3 = length-decimal-le 3 w (omega arith) (omega arith) (omega arith) in
-    let height_len : length (decimal h) ≤ 3 = length-decimal-le 3 h (omega arith) (omega arith) (omega arith) in
+    let width_len : length (decimal w) ≤ 4 = length-decimal-le 4 w (omega arith) (omega arith) (omega arith) in
+    let height_len : length (decimal h) ≤ 4 = length-decimal-le 4 h (omega arith) (omega arith) (omega arith) in
     let len : length (decimal w ++ 32 ∷ decimal h) ≡ length (decimal w) + (length (decimal h) + 1) =
     omega (arith, length-append (decimal w) (32 ∷ decimal h)) in
     let height_plain = All-cons IsPlain 32 (decimal h) refl (number_plain h (omega arith)) in

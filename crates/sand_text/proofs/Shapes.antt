@@ -2,6 +2,7 @@
 use Rattle.sand_text.proofs.Common.{◌≡◌, ℕ, ◌+◌, ◌-◌, ◌*◌, ◌<◌, ◌≤◌, List, [], ◌∷◌, Bool, true, false, length, take, drop, get_or, ltb, refl, ◌∙◌, ap, arith, length-drop, sum, min, ◌⊎◌, Result, Ok, Err, IsTrue, if◌then◌else◌, mul-le-mul, and_parts, nat_tests, take-take, Edge, Open, Grid, grid_with_edge, is_side, sites, Text, Length, TooManyGrains, Survey, Token, Number, Letter, Strange, numbers, pile_at, filled, is_count, of_shape, IsSurvey, IsFull, IsEnd, IsShaped, edge_or, sites_of, most_grains, usual}
 use Rattle.sand_model.specs.declared.faults.ShapeFault.{ShapeFault}
 use Rattle.sand_model.specs.declared.faults.ShapeFault.TheVariants.{Side, Narrow}
+use Rattle.sand_model.proofs.Bounds.{limit_is_high}
 use Rattle.sand_text.specs.Tokens.{edge_behind}
 
 -- ---- the end of a survey
@@ -76,6 +77,7 @@ made_of some narrow w h e g is = grind (arith, usual)
 record Fits (s : Survey) (g : Grid) : Type 0 where
   width : IsTrue (is_side s.width)
   height : IsTrue (is_side s.height)
+  low : g.height ≤ 256
   area : s.width * s.height ≡ sites g
   room : sites_of s ≡ sites g
 
@@ -121,5 +123,5 @@ module _ (last : Bool) (end : ℕ) (ws rest : List Token) (s : Survey) (h : IsSu
           room = fit.room;
           enough = omega (arith, h.counted.within);
           grains = omega (arith, counted);
-          limit = within;
+          limit = omega (arith, within, limit_is_high g fit.low);
         }

@@ -1,8 +1,10 @@
 -- What the definitions by tokens say of bytes, and of a written text.
-use Rattle.std.specs.Prelude.{◌≡◌, ℕ, ◌<◌, List, Bool, true, not, ◌&&◌, length, slice_index, MatchOption, None, Ok, nat_lt, filter, map}
+use Rattle.std.specs.Prelude.{◌≡◌, ℕ, ◌<◌, List, Bool, true, not, ◌&&◌, length, slice_index, MatchOption, None, Ok, Err, nat_lt, filter, map, if◌then◌else◌}
 use Rattle.std.specs.List.{slice_split}
 use Rattle.std.specs.Str.Parse.{digits_value}
+use Rattle.sand_model.specs.Grid.{is_side}
 use Rattle.sand_model.specs.Piles.{PileView, IsPile}
+use Rattle.sand_text.specs.declared.fault.TextFault.TheVariants.{Side}
 use Rattle.sand_text.specs.Bytes.{is_other, is_space, capped}
 use Rattle.sand_text.specs.Tokens.{tokens, first_strange, numbers}
 use Rattle.sand_text.specs.Texts.{text_of}
@@ -23,9 +25,10 @@ StrangeByte = (spared text : List ℕ) → MatchOption (first_strange spared 0 (
     (OnlyLetters text (length text))
     (λ at. (at < length text) × (is_strange (slice_index text at) ≡ true) × OnlyLetters text at)
 
--- the written text of a pile is read as the same pile
+-- the written text of a pile is read as the same pile, or refused as Side if a side is not that of a text
 abbrev pub ReadAgain : Type 0
-ReadAgain = (p : PileView) → IsPile p → pile_of (text_of p) ≡ Ok p
+ReadAgain = (p : PileView) → IsPile p
+    → pile_of (text_of p) ≡ (if is_side p.grid.width && is_side p.grid.height then Ok p else Err Side)
 
 -- the longest runs of digits
 abbrev pub digit_runs : List ℕ → List (List ℕ)

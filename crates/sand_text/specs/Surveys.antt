@@ -4,7 +4,7 @@ use Rattle.std.specs.Option.{option_or}
 use Rattle.sand_model.specs.declared.shape.Edge.{Edge}
 use Rattle.sand_model.specs.declared.shape.Edge.TheVariants.{Open, Cylinder}
 use Rattle.sand_model.specs.Grid.{Grid, is_side, sites}
-use Rattle.sand_model.specs.Piles.{PileView, most_grains}
+use Rattle.sand_model.specs.Piles.{PileView, most_grains, most_grains_on}
 use Rattle.sand_text.specs.declared.fault.TextFault.{TextFault}
 use Rattle.sand_text.specs.declared.fault.TextFault.TheVariants.{Text}
 use Rattle.sand_text.specs.declared.survey.Survey.{Survey}
@@ -114,7 +114,7 @@ pub record IsShaped (last : Bool) (end : ℕ) (ws : List Token) (s : Survey) (g 
   pub room : sites_of s ≡ sites g
   pub enough : 2 + sites g ≤ length (numbers ws)
   pub grains : s.grains ≡ sum (take (sites g) (drop 2 (numbers ws)))
-  pub limit : s.grains ≤ most_grains
+  pub limit : s.grains ≤ most_grains_on g
 
 -- no number follows the last height
 abbrev pub IsWithinPile : Survey → Type 0

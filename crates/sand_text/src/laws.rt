@@ -13,7 +13,7 @@ pub fn numbers_are_runs()
     ensures { NumbersAreRuns }
 {}
 
-/// The written text of a pile is read as the same pile.
+/// The written text of a pile is read as the same pile, or refused as Side if a side is over 256.
 pub fn read_again()
     ensures { ReadAgain }
 {}

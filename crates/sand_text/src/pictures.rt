@@ -14,8 +14,8 @@ use std::alloc::{AllocError, Global};
 
 const LINE_VALUES: usize = 35;
 
-/// The most bytes before the first value, with sides of three digits.
-const HEAD_BYTES: usize = 13;
+/// The most bytes before the first value, with sides of four digits.
+const HEAD_BYTES: usize = 15;
 
 fn push_head(text: &mut Vec<u8>, shape: Shape) -> Result<(), AllocError>
     ensures { OnOk result (text.new.items ≡ text.old.items ++ head_text shape) }

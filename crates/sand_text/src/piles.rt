@@ -1,11 +1,11 @@
 //! Reading and writing a pile, and reading the sites of the grains to be dropped on it.
 
-ghost use Rattle.std.specs.Prelude.{◌≡◌, ◌+◌, ◌≤◌, ◌++◌, length, sum, vec_len, vec_capacity, IsOk, OnOk, IfOk, IfErr};
+ghost use Rattle.std.specs.Prelude.{◌≡◌, ◌+◌, ◌*◌, ◌≤◌, ◌++◌, length, sum, vec_len, vec_capacity, IsOk, OnOk, IfOk, IfErr};
 ghost use Rattle.sand_model.specs.Grid.{sites};
 ghost use Rattle.sand_text.specs.Tokens.{tokens, numbers};
 ghost use Rattle.sand_text.specs.Reading.{Reads, ReadsAs, drops_of, pile_of, heights_on, behind_heights};
 ghost use Rattle.sand_text.specs.Texts.{shape_text, text_of, odometer_text};
-ghost use Rattle.sand_model.specs.Piles.{most_grains};
+ghost use Rattle.sand_model.specs.Piles.{most_grains_on};
 
 use crate::fault::{ReadFault, TextFault};
 use crate::numbers::Numbers;
@@ -20,7 +20,7 @@ fn shape_of(text: &[u8]) -> Result<(Shape, u64), TextFault>
         (λ (g, _). pile_of text.now ≡ Ok (record { grid = g; heights = heights_on g text.now })) }
     ensures enough { IfOk result (λ (g, _). 2 + sites g ≤ length (numbers (tokens text.now))) }
     ensures len { IfOk result (λ (g, _). length (heights_on g text.now) ≡ sites g) }
-    ensures grains { IfOk result (λ (g, grains). (grains ≡ sum (heights_on g text.now)) × (grains ≤ most_grains)) }
+    ensures grains { IfOk result (λ (g, grains). (grains ≡ sum (heights_on g text.now)) × (grains ≤ most_grains_on g)) }
     ensures err { IfErr result (λ e. pile_of text.now ≡ Err e) }
 {
     let survey = plain_survey(text)?;
@@ -43,7 +43,8 @@ fn shape_before_drops(text: &[u8]) -> Result<(Shape, u64, usize), TextFault>
         drops_of text.now ≡ Ok (record { grid = g; heights = heights_on g text.now }, behind_heights g text.now)) }
     ensures enough { IfOk result (λ (g, _, _). 2 + sites g ≤ length (numbers (tokens text.now))) }
     ensures len { IfOk result (λ (g, _, _). length (heights_on g text.now) ≡ sites g) }
-    ensures grains { IfOk result (λ (g, grains, _). (grains ≡ sum (heights_on g text.now)) × (grains ≤ most_grains)) }
+    ensures grains { IfOk result (λ (g, grains, _).
+        (grains ≡ sum (heights_on g text.now)) × (grains ≤ most_grains_on g)) }
     ensures count { IfOk result (λ (g, _, count). length (behind_heights g text.now) ≡ count) }
     ensures err { IfErr result (λ e. drops_of text.now ≡ Err e) }
 {
@@ -90,8 +91,8 @@ pub(crate) fn push_shape(text: &mut Vec<u8>, shape: Shape) -> Result<(), AllocEr
 pub fn push_pile(text: &mut Vec<u8>, pile: &Pile) -> Result<(), AllocError>
     ensures written { OnOk result (text.new.items ≡ text.old.items ++ text_of pile.now) }
 
-    // It succeeds if there is room for two sides, 65,536 heights, and what follows each.
-    ensures room { vec_len text.old + 1376300 ≤ vec_capacity text.old → IsOk result }
+    // It succeeds if there is room for two sides, the heights, and what follows each.
+    ensures room { vec_len text.old + (44 + 21 * sites pile.now.grid) ≤ vec_capacity text.old → IsOk result }
     ensures capacity { vec_capacity text.old ≤ vec_capacity text.new }
 {
     push_shape(text, pile.shape())?;

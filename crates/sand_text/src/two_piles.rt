@@ -12,7 +12,7 @@ ghost use Rattle.sand_text.specs.Left.{tokens_left};
 ghost use Rattle.sand_text.specs.Bytes.{has_large};
 ghost use Rattle.sand_text.specs.Reading.{ReadsAs, plain_tokens, second_letter, second_spared, two_letters, two_of, heights_on, behind_heights, heights_behind};
 ghost use Rattle.sand_text.specs.Surveys.{IsSurvey, IsFront, IsFirstStrange, barred_at};
-ghost use Rattle.sand_model.specs.Piles.{most_grains};
+ghost use Rattle.sand_model.specs.Piles.{most_grains_on};
 
 use crate::bytes::has_large;
 use crate::fault::{ReadFault, TextFault};
@@ -94,7 +94,7 @@ fn shapes_of(text: &[u8]) -> Result<((Shape, u64), (Shape, u64)), TextFault>
         (length (heights_on g text.now) ≡ sites g) × (length (heights_behind g h text.now) ≡ sites h)) }
     ensures grains { IfOk result
         (λ ((g, n), (h, m)). (n ≡ sum (heights_on g text.now)) × (m ≡ sum (heights_behind g h text.now))) }
-    ensures limit { IfOk result (λ ((_, n), (_, m)). (n ≤ most_grains) × (m ≤ most_grains)) }
+    ensures limit { IfOk result (λ ((g, n), (h, m)). (n ≤ most_grains_on g) × (m ≤ most_grains_on h)) }
     ensures err { IfErr result (λ e. two_of text.now ≡ Err e) }
 {
     let (first, second) = two_surveys(text)?;

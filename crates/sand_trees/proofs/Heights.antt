@@ -5,6 +5,7 @@ use Rattle.std.proofs.lemmas.List.Elements.{All-from_get_or}
 use Rattle.std.proofs.lemmas.Nat.{div-mul-add, mod-mul-add}
 use Rattle.sand_model.specs.Grid.{north, west, east, south}
 use Rattle.sand_group.proofs.OperationsOnHeights.{few_grains}
+use Rattle.sand_model.specs.Piles.{most_grains_on}
 use Rattle.sand_trees.specs.Trees.{depths_around, edges_below, edges_passed, IsTree, IsPileOfTree}
 use Rattle.sand_trees.specs.Walks.{IsHeightAmong, IsHeightAt}
 use Rattle.sand_trees.proofs.Edges.{around_parent}
@@ -97,7 +98,7 @@ near_inner g i l inner =
 -- ---- all sites
 
 pub few_heights : (g : Grid) (dir d : ℕ → ℕ) (heights : List ℕ) → IsGrid g → length heights ≡ sites g
-    → ((k : ℕ) → k < sites g → IsHeightAt g dir d k (get_or heights k 0)) → sum heights ≤ 786432
+    → ((k : ℕ) → k < sites g → IsHeightAt g dir d k (get_or heights k 0)) → sum heights ≤ most_grains_on g
 few_heights g dir d heights grid len each = few_grains g heights grid len
     (All-from_get_or (λ h. h ≤ 12) heights 0 (λ i l. (each i (omega arith)).few))
 

@@ -11,6 +11,10 @@
 //! Three walks of five end after one step. Nobody can predict which sites these are, or which are in the tree already, so
 //! both kinds are passed without a branch.
 //!
+//! A cell has 29 bits for the number of the next cell, or for a depth. Both are below 2^27: the largest frame, around 8,192 by
+//! 8,192 sites, has 8,194 rows of 8,193 cells, 67,133,442 in all, and a depth is at most the number of sites. So no cell of the
+//! tree looks like the seam, whose bits are all set. So large a tree takes about 4 * 10^8 steps.
+//!
 //! Of all this it is proved only that it is safe and ends.
 
 ghost use Rattle.std.specs.Prelude.{◌<◌, length};

@@ -1,28 +1,28 @@
-use Rattle.sand_c.proofs.Common.{◌∙◌, ℕ, List, [], ◌∷◌, ◌++◌, subst, arith, take, get_or, Result, IfOk, OnOk, take_more, PileView, Avalanche, IsAvalanche, DrivenView, grid_of_driven, topplings_between, IsAfter, Drops, append_assoc}
-use Rattle.sand_settle.specs.declared.faults.OneFault.{OneFault}
+-- The avalanches so far are those of the drops so far, and the next drop adds its own (`avalanches_push`).
+use Rattle.sand_c.proofs.Common.{◌∙◌, ℕ, List, [], ◌∷◌, ◌++◌, subst, arith, take, get_or, length-set, take_more, take_more_set, DrivenView, IsAfter, append_assoc}
 use Rattle.sand_settle.proofs.Drops.{avalanches_push}
 use Rattle.sand_c.proofs.dropping.drop_all.Goals as goal
 
-pub loop-site-preserved : goal.loop-site-preserved
-loop-site-preserved c =
-    let i : ℕ = c.loop-site.site-index in
+pub loop-next-preserved : goal.loop-next-preserved
+loop-next-preserved c =
+    let i : ℕ = c.loop-next.next in
     let site : ℕ = get_or c.args.drops.now i 0 in
-    let v : DrivenView = c.loop-site.pile in let w : DrivenView = c.drop_at.new.self in
-    let more = take_more c.args.drops.now i 0 c.loop-site-test.true in
-    let R : Type 0 = Result (ℕ × Avalanche) OneFault in
-    let drops : Drops v site w = subst (λ (r : R). OnOk r (Drops v site w)) c.unwrap.ensures c.drop_at.ensures.drops in
-    let avalanche : IsAvalanche (grid_of_driven v) site (topplings_between v.settled w.settled) c.unwrap.result.1 =
-    subst (λ (r : R). IfOk r (λ q. IsAvalanche (grid_of_driven v) site (topplings_between v.settled w.settled) q.1)) c.unwrap.ensures c.drop_at.ensures.avalanche in
-    let after : (start : PileView) (history : List ℕ) → IsAfter start history v → IsAfter start (history ++ site ∷ []) w =
-    subst (λ (r : R). OnOk r ((start : PileView) (history : List ℕ) → IsAfter start history v → IsAfter start (history ++ site ∷ []) w)) c.unwrap.ensures c.drop_at.ensures.after in
-    let noted = avalanches_push c.args.pile.now v w (take i c.args.drops.now) c.loop-site.rows.items site c.unwrap.result.1 c.loop-site.invariant.rows
-    (record { drops = drops; avalanche = avalanche }) in
+    let v : DrivenView = c.loop-next.pile in let w : DrivenView = c.drop_grain.new.pile in
+    let drops : List ℕ = take i c.args.drops.now in
+    let more = take_more c.args.drops.now i 0 c.loop-next-test.true in
+    let was = c.loop-next.invariant in
+    let dropped = c.drop_grain.ensures in
     record {
-      rows = rw (more, c.push_reserved.ensures.items) noted;
-      after = λ start history first. rw more (subst (λ (l : List ℕ). IsAfter start l w) (append_assoc history (take i c.args.drops.now) (site ∷ []))
-          (after start (history ++ take i c.args.drops.now) (c.loop-site.invariant.after start history first)));
-      grid = drops.settled.grid ∙ c.loop-site.invariant.grid;
-      grains = omega (arith, drops.grains, c.loop-site.invariant.grains);
-      len = omega (arith, c.push_reserved.ensures.len, c.loop-site.invariant.len);
-      room = c.push_reserved.ensures.capacity ∙ c.loop-site.invariant.room;
+      avalanches = rw (
+        more,
+        take_more_set c.loop-next.avalanches i c.drop_grain.result
+            (omega (arith, c.loop-next-test.true, was.avalanche_each)),
+      )
+          (avalanches_push c.args.pile.now v w drops (take i c.loop-next.avalanches) site c.drop_grain.result
+          was.avalanches (record { drops = dropped.drops; avalanche = dropped.avalanche }));
+      after = λ start history first. rw more (subst (λ (l : List ℕ). IsAfter start l w) (append_assoc history drops (site ∷ []))
+          (dropped.after start (history ++ drops) (was.after start history first)));
+      grid = dropped.drops.settled.grid ∙ was.grid;
+      grains = omega (arith, dropped.drops.grains, was.grains);
+      avalanche_each = length-set c.loop-next.avalanches i c.drop_grain.result ∙ was.avalanche_each;
     }

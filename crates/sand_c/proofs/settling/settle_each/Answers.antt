@@ -1,6 +1,6 @@
 -- Each pile is within the limit (`each_within`), so its copy settles in place. Its record is appended to those of the
 -- piles before it, and changes none of these (`one_more`).
-use Rattle.sand_c.proofs.Common.{◌≡◌, ◌∙◌, ℕ, List, ap, subst, rules, slice_index, slice_chunk, Grid, sites, SettledView, IsSettledRecord}
+use Rattle.sand_c.proofs.Common.{◌≡◌, ◌∙◌, ℕ, List, ap, subst, rules, slice_index, slice_chunk, Grid, sites, most_grains_on, SettledView, IsSettledRecord}
 use Rattle.sand_settle.specs.InPlace.{record_in_place}
 use Rattle.sand_c.proofs.Chunks.{each_within}
 use Rattle.sand_c.proofs.Records.{one_more}
@@ -16,7 +16,8 @@ copied c = c.copy_from_slice.ensures.after ∙ c.heights_at.ensures.value
 pub settle_in_place-requires-clause-limit : goal.settle_in_place-requires-clause-limit
 settle_in_place-requires-clause-limit c =
     rw (copied (goal.at.settle_in_place-requires-clause-limit c).After-copy_from_slice)
-    (each_within (sites c.args.shape) c.args.heights.now c.args.count c.requires.within c.loop-next.next c.loop-next-test.true)
+    (each_within (most_grains_on c.args.shape) (sites c.args.shape) c.args.heights.now c.args.count c.requires.within
+    c.loop-next.next c.loop-next-test.true)
 
 pub loop-next-preserved : goal.loop-next-preserved
 loop-next-preserved c =

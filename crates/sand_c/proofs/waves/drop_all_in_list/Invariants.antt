@@ -14,5 +14,5 @@ invariant-loop-next l = record {
   few : l.count ≤ l.next * most_to_edge (grid_of_driven l.initial.pile);
   rest : drop l.count l.waves ≡ drop l.count l.initial.waves;
   len : length l.waves ≡ length l.initial.waves;
-  room : length l.sizes ≡ 128;
+  room : length l.sizes ≡ length l.initial.sizes;
 }

@@ -1,4 +1,4 @@
-use Rattle.sand_commands.proofs.Common.{◌+◌, ◌<◌, arith, sum, Some, err_from_is_err_and, most_grains, IsDropsFault, IsDropsText}
+use Rattle.sand_commands.proofs.Common.{◌+◌, ◌<◌, ap, arith, sum, Some, most_grains_on, err_from_is_err_and, IsDropsFault, IsDropsText}
 use Rattle.sand_commands.proofs.DrawnText.{ArePushed, all_taken, end_fails, last_fails, rows_fail}
 use Rattle.sand_commands.proofs.Drawing.{overfull, unread}
 use Rattle.sand_commands.proofs.Endings.{found_first}
@@ -28,10 +28,18 @@ returns-in_err-start-clause-fault g c =
     (IsDropsFault (Some c.args.draw) c.args.input.now) (g.W.Write.contents c.args.writer.now) _
     (unread c.args.draw c.args.input.now _ c.in_err-start.ensures))
 
-pub returns-then-from-grains-clause-fault : goal.returns-then-from-grains-clause-fault
-returns-then-from-grains-clause-fault g c =
-    let over : most_grains < sum c.in_ok-start.start.heights + c.args.draw.count =
-    omega (arith, c.if-from-grains.true, c.from.ensures, c.grains.ensures.value, c.grains.ensures.pile.limit) in
+pub returns-then-from-room-clause-fault : goal.returns-then-from-room-clause-fault
+returns-then-from-room-clause-fault g c =
+    let over : most_grains_on c.in_ok-start.start.grid < sum c.in_ok-start.start.heights + c.args.draw.count =
+    omega (
+      arith,
+      c.if-from-room.true,
+      c.from.ensures,
+      c.grain_limit.ensures.value,
+      ap most_grains_on c.shape.ensures.value,
+      c.grains.ensures.value,
+      c.grains.ensures.pile.limit,
+    ) in
     found_first (IsDropsText (Some c.args.draw) c.args.part c.args.input.now)
     (IsDropsFault (Some c.args.draw) c.args.input.now) (g.W.Write.contents c.args.writer.now) _
     (overfull c.args.draw c.args.input.now c.in_ok-start.start c.in_ok-start.ensures over)
@@ -76,3 +84,15 @@ returns-clause-done g c =
     (g.W.Write.contents c.push_end-ended.new.writer) c.push_end-ended.new.blocks
     (rw c.finish-last.ensures.value at c.in_ok-ended.ensures.ok)
     (g.W.Write.contents c.finish.new.writer) c.in_ok-finish.ensures.ok
+
+pub drop_drawn-dropped-requires-clause-room : goal.drop_drawn-dropped-requires-clause-room
+drop_drawn-dropped-requires-clause-room g c = omega (
+  arith,
+  c.if-from-room.false,
+  c.from.ensures,
+  c.grain_limit.ensures.value,
+  ap most_grains_on c.shape.ensures.value,
+  ap most_grains_on c.in_ok-pile.ensures.settled.settled.grid,
+  c.in_ok-pile.ensures.settled.grains,
+  c.grains.ensures.value,
+)

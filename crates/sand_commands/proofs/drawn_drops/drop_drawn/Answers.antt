@@ -1,4 +1,4 @@
-use Rattle.sand_commands.proofs.Common.{◌≡◌, ◌∙◌, ◌+◌, ◌-◌, ◌<◌, ◌++◌, ◌∷◌, [], ℕ, List, All, drop, length, refl, sym, ap, arith, subst, append_assoc, err_from_is_err_and, Grid, sites, grid_of_driven, IsAfter, Reading, site_at, stream_sites, of_stream, AreAdded, BreaksInRows}
+use Rattle.sand_commands.proofs.Common.{◌≡◌, ◌∙◌, ◌+◌, ◌-◌, ◌<◌, ◌++◌, ◌∷◌, [], ℕ, List, All, drop, length, refl, sym, ap, arith, subst, append_assoc, err_from_is_err_and, Grid, sites, most_grains_on, grid_of_driven, IsAfter, Reading, site_at, stream_sites, of_stream, AreAdded, BreaksInRows}
 use Rattle.sand_commands.proofs.DrawnSites.{drawn_inside, drawn_more, drawn_none, drawn_split, length-drawn}
 use Rattle.sand_commands.proofs.Streaming.{broke_in_row, none_added, row_added}
 use Rattle.sand_commands.proofs.drawn_drops.drop_drawn.Goals as goal
@@ -64,7 +64,8 @@ returns-in_err-push_row-clause-fault g c =
     c.in_ok-avalanche.ensures.drops c.in_ok-avalanche.ensures.avalanche broken inside
     (let grains = first.grains in
     let room = c.requires.room in
-    omega (arith, grains, room, long, left, c.loop-read-test.true))))
+    let limit = ap most_grains_on first.settled.grid in
+    omega (arith, grains, room, limit, long, left, c.loop-read-test.true))))
 
 pub loop-read-preserved : goal.loop-read-preserved
 loop-read-preserved g c =
@@ -99,3 +100,10 @@ loop-read-preserved g c =
       grid = c.in_ok-avalanche.ensures.drops.settled.grid ∙ c.loop-read.invariant.grid;
       grains = omega (arith, c.in_ok-avalanche.ensures.drops.grains, c.loop-read.invariant.grains);
     }
+
+pub returns-clause-after : goal.returns-clause-after
+returns-clause-after g c = λ start first.
+    let sites_to : ℕ → List ℕ = λ k. drop c.args.draw.from
+    (stream_sites (sites (grid_of_driven c.args.pile.now)) c.args.draw.seed c.args.draw.stream (c.args.draw.from + k)) in
+    let all : c.loop-read.read ≡ c.args.draw.count = omega (arith, c.loop-read-test.false, c.loop-read.auto.read-end) in
+    subst (λ k. IsAfter start (sites_to k) c.loop-read.pile) all (c.loop-read.invariant.after start first)

@@ -1,6 +1,6 @@
 -- A place is marked if and only if its site has toppled, so area and reach of the sets are those of the sites
--- (`area_is`, `all_within`, `some_reached`). They fit into 32 bits: there are at most 65,536 tiles of 64 places, and
--- no two sites are 512 apart.
+-- (`area_is`, `all_within`, `some_reached`). They fit into 32 bits: there are at most 2^21 tiles of 64 places, and
+-- no two sites are 16,384 apart.
 use Rattle.sand_fronts.proofs.Common.{◌∙◌, ap, arith, ltb, refl, length, slice_index, one_if, in_sets}
 use Rattle.sand_fronts.proofs.Counted.{few_in_sets}
 use Rattle.sand_fronts.proofs.Marked.{area_is}

@@ -14,5 +14,5 @@ unreachable-requires c =
     let refused = c.in-Err-TooManyGrains.is ∙ ap Err c.in-Err-TooManyGrains.field-0-is in
     let past = c.plus.ensures.limit.0 refused in
     let small = together_small c.args.a.now c.args.b.now c.grains.ensures.pile c.grains-2.ensures.pile
-    c.requires.low_a c.requires.low_b in
+    c.requires.one_grid c.requires.low_a c.requires.low_b in
     absurd (omega arith)

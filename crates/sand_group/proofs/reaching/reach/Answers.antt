@@ -1,6 +1,6 @@
 -- No height that is settled last is over 18, far below the limit of a pile. What is proved of lists holds of the
 -- piles.
-use Rattle.sand_group.proofs.Common.{List, ℕ, ap, arith, length, get_or, slice_index, sum_by-le, PileView, height_of, sites_limit}
+use Rattle.sand_group.proofs.Common.{List, ℕ, ap, arith, length, get_or, slice_index, sum_by-le, PileView, height_of, most_grains_on, limit_has_room}
 use Rattle.sand_group.proofs.reaching.reach.Goals as goal
 
 pub from_vec-requires-clause-limit : goal.from_vec-requires-clause-limit
@@ -11,7 +11,8 @@ from_vec-requires-clause-limit c = omega (
   ap (λ (xs : List ℕ). length xs) c.heights.ensures.value,
   ap (λ (v : PileView). length v.heights) c.pile.ensures.value,
   c.in_ok-plus.ensures.record_of.heights_each,
-  sites_limit c.args.p.now.grid c.shape-shape.ensures.pile.grid,
+  ap most_grains_on c.shape-shape.ensures.value,
+  limit_has_room c.args.p.now.grid c.shape-shape.ensures.pile.grid,
 )
 
 pub returns : goal.returns

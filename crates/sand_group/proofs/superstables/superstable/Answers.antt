@@ -1,21 +1,46 @@
 -- From below - above and a lift of 3 the recurrent pile of 3 - p is reached, and 3 less it is superstable
 -- (`superstable_from_reached`). A class has one such pile, so heights are superstable if and only if they are it
 -- (`superstable_if_itself`).
-use Rattle.sand_group.proofs.Common.{List, ℕ, ap, arith, length, get_or, sum_by-le, whole, PileView, height_of, sites_limit, integer_at, IsSuperstableOf}
+use Rattle.sand_group.proofs.Common.{List, ℕ, ◌≤◌, ◌∙◌, ap, subst, arith, length, get_or, sum_by-le, All-from_get_or, whole, IsGrid, PileView, height_of, odometer_of, limit_has_room, settled_stable, integer_at, IsSuperstableOf}
 use Rattle.sand_group.proofs.ReachedIsRecurrent.{superstable_from_reached}
 use Rattle.sand_group.proofs.SuperstableHeights.{superstable_if_itself}
 use Rattle.sand_group.proofs.superstables.superstable.Goals.{After-from_vec}
 use Rattle.sand_group.proofs.superstables.superstable.Goals as goal
 
+-- a settled pile is stable
+pub three_less-requires : goal.three_less-requires
+three_less-requires c =
+    let last = c.in_ok-reached.reached.last in
+    let made = c.pile.ensures.settled.1 in
+    let stable = settled_stable last.pile.grid c.pile.ensures.settled.0 (odometer_of last) (height_of last.pile) made.settled in
+    All-from_get_or (λ h. h ≤ 3) c.heights.result.now 0 (λ i l.
+    let same = ap (λ (xs : List ℕ). get_or xs i 0) c.heights.ensures.value in
+    let pile = ap (λ (v : PileView). height_of v i) c.pile.ensures.value in
+    omega (
+      arith,
+      same,
+      pile,
+      stable.low i (omega (
+        arith,
+        ap (λ (xs : List ℕ). length xs) c.heights.ensures.value,
+        ap (λ (v : PileView). length v.heights) c.pile.ensures.value,
+        made.heights_each,
+      )),
+    ))
+
 pub from_vec-requires-clause-limit : goal.from_vec-requires-clause-limit
-from_vec-requires-clause-limit c = omega (
-  arith,
-  sum_by-le (λ h. h) 3 c.in_ok-rests.rests.items c.in_ok-rests.ensures.low,
-  c.in_ok-rests.ensures.len,
-  ap (λ (xs : List ℕ). length xs) c.heights.ensures.value,
-  c.heights.ensures.pile.len,
-  sites_limit _ c.heights.ensures.pile.grid,
-)
+from_vec-requires-clause-limit c =
+    let is = rw c.in_ok-above.ensures.below_grid at c.in_ok-reached.ensures in
+    let grid = ap (λ (v : PileView). v.grid) c.pile.ensures.value ∙ is.last.record_of.grid in
+    omega (
+      arith,
+      sum_by-le (λ h. h) 3 c.in_ok-rests.rests.items c.in_ok-rests.ensures.low,
+      c.in_ok-rests.ensures.len,
+      ap (λ (xs : List ℕ). length xs) c.heights.ensures.value,
+      ap (λ (v : PileView). length v.heights) c.pile.ensures.value,
+      is.last.record_of.heights_each,
+      limit_has_room c.args.shape (subst IsGrid grid c.heights.ensures.pile.grid),
+    )
 
 found : (c : After-from_vec) → IsSuperstableOf c.args.shape (integer_at c.args.heights.now) c.from_vec.result
 found c =

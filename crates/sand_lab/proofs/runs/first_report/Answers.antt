@@ -1,4 +1,4 @@
-use Rattle.sand_lab.proofs.Common.{ℕ, ◌*◌, sum, sym, ap, ap₂, subst, arith, PileView, quota_of, IsReportOf}
+use Rattle.sand_lab.proofs.Common.{ℕ, ◌*◌, sum, sym, ap, ap₂, subst, arith, most_grains_on, PileView, quota_of, IsReportOf}
 use Rattle.std.proofs.lemmas.Result.{IfOk-weaker}
 use Rattle.sand_lab.proofs.OneEpochMore.{report_first, closed_drops, first_and_later}
 use Rattle.sand_lab.proofs.runs.first_report.Goals as goal
@@ -8,9 +8,10 @@ copy_to_grow-requires g c =
     let epoch = c.in_ok-first.ensures.closed.closed in
     let drops = closed_drops c.args.wish c.args.start.now 0 c.in_ok-first.first.closed _ _ _ epoch in
     let grains = ap (λ (x : PileView). sum x.heights) epoch.from_start in
+    let limit = ap (λ (x : PileView). most_grains_on x.grid) epoch.from_start in
     let later = ap₂ (λ (m n : ℕ). m * n) c.quota_of.ensures c.from.ensures in
     let all = first_and_later c.args.wish.epochs (quota_of c.args.wish) c.requires.plan.some_epochs in
-    omega (arith, drops, grains, later, all, c.requires.limit)
+    omega (arith, drops, grains, limit, later, all, c.requires.limit)
 
 pub returns-clause-report : goal.returns-clause-report
 returns-clause-report g c =

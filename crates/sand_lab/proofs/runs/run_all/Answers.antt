@@ -1,4 +1,4 @@
-use Rattle.sand_lab.proofs.Common.{◌≡◌, sum, ap, ◌∙◌, subst, arith, PileView, RecordView, IsEpoch, IsReportOf}
+use Rattle.sand_lab.proofs.Common.{◌≡◌, sum, ap, ◌∙◌, subst, arith, most_grains_on, PileView, RecordView, IsEpoch, IsReportOf}
 use Rattle.sand_lab.proofs.OneEpochMore.{report_more, epoch_drops, room_for_epoch}
 use Rattle.sand_lab.proofs.runs.run_all.Goals as goal
 
@@ -6,9 +6,13 @@ pub closed_epoch-requires-clause-limit : goal.closed_epoch-requires-clause-limit
 closed_epoch-requires-clause-limit g c κs within =
     let room = room_for_epoch c.args.album.now c.args.wish c.args.start.now c.loop-epoch.epoch c.loop-epoch.report
     c.loop-epoch.invariant c.loop-epoch-test.true c.requires.limit in
-    let pile = ap (λ (x : PileView). sum x.heights)
-    (c.pile-pile.ensures.value ∙ ap (λ (r : RecordView). r.settled.pile) c.total.ensures) in
-    omega (arith, room.1, pile)
+    let same = c.pile-pile.ensures.value ∙ ap (λ (r : RecordView). r.settled.pile) c.total.ensures in
+    omega (
+      arith,
+      room.1,
+      ap (λ (x : PileView). sum x.heights) same,
+      ap (λ (x : PileView). most_grains_on x.grid) same,
+    )
 
 pub add-requires-clause-limit : goal.add-requires-clause-limit
 add-requires-clause-limit g c =

@@ -9,7 +9,11 @@ use Rattle.sand_settle.proofs.in_place.settle_light.Goals as goal
 settling : (c : In_ok-is_settled) → Settles (record { grid = c.args.shape; heights = c.args.heights.now })
     c.topple_to_rest.new.counts c.topple_to_rest.new.heights
 settling c = settles
-    (record { grid = c.requires.sides; len = c.requires.heights_each; limit = c.requires.limit })
+    (record {
+      grid = c.requires.sides;
+      len = c.requires.heights_each;
+      limit = c.requires.limit;
+    })
     (c.topple_to_rest.auto.counts ∙ c.requires.odometer_each)
     (c.topple_to_rest.auto.heights ∙ c.requires.heights_each)
     (c.in_ok-is_settled.ensures.settled (c.in_ok-is_settled.ensures.ends (omega arith)))

@@ -1,4 +1,4 @@
-use Rattle.sand_settle.proofs.Common.{ℕ, ◌≡◌, ◌+◌, ◌∙◌, ◌++◌, sym, ap, subst, arith, length, take, drop, sum, Result, IfOk, OnOk, take_at, PileView, Avalanche, IsAvalanche, DrivenView, grid_of_driven, topplings_between, Drops, IsPaid, driven_view, SettledView, IsSomeSettledRecord}
+use Rattle.sand_settle.proofs.Common.{ℕ, ◌≡◌, ◌+◌, ◌∙◌, ◌++◌, sym, ap, subst, arith, length, take, drop, sum, most_grains_on, Result, IfOk, OnOk, take_at, PileView, Avalanche, IsAvalanche, DrivenView, grid_of_driven, topplings_between, Drops, IsPaid, driven_view, SettledView, IsSomeSettledRecord}
 use Rattle.sand_settle.specs.declared.faults.OneFault.{OneFault}
 use Rattle.sand_settle.proofs.OneRecord.{same_parts}
 use Rattle.sand_settle.proofs.Drops.{grains_after, paid_after, some_record_after, view_after}
@@ -74,6 +74,8 @@ overflow_sub-grains c = let left = grains (goal.at.overflow_sub-grains c).After-
 pub from_counted-requires-clause-limit : goal.from_counted-requires-clause-limit
 from_counted-requires-clause-limit c =
     let at = goal.at.from_counted-requires-clause-limit c in
+    let limit = ap most_grains_on (c.into_parts-shape.ensures.shape
+    ∙ ap (λ (r : SettledView). r.pile.grid) c.settled.view_is ∙ sym (dropped at.After-unwrap).settled.grid) in
     rw (heights_are at.After-update_odometer) (omega (arith, (paid at.After-unwrap).limit))
 
 pub from_counted-requires-clause-counted : goal.from_counted-requires-clause-counted

@@ -14,7 +14,7 @@ uncounted c j = zero_at (length c.args.counts.now) j _ (c.fill.ensures.after (λ
 pays : (c : After-fill) → 2 * topplings c.args.lattice.now (λ j. get_or c.fill.new.self j 0)
     + weight c.args.lattice.now (λ j. get_or c.args.heights.now j 0) < 2 ^ 55
 pays c = few_at_first c.args.lattice.now (λ j. get_or c.fill.new.self j 0) c.args.heights.now
-    c.knows_sides.ensures c.requires.heights_each c.requires.limit (uncounted c)
+    c.requires.heights_each c.requires.limit (uncounted c)
 
 pub generations-init : goal.generations-init
 generations-init c = record {

@@ -1,6 +1,6 @@
 -- The settled heights and the odometer determine the rest (`settles`): the grains that the pile no longer has are
 -- lost, and twice the topplings are at most the weight of the start, so their sum fits.
-use Rattle.sand_settle.proofs.Common.{◌-◌, ◌∙◌, ap, arith, refl, subst, sum, sym, PileView, height_of, sum_is_grains, IsSettledRecord, SettledView}
+use Rattle.sand_settle.proofs.Common.{◌-◌, ◌∙◌, ap, arith, refl, subst, sum, sym, most_grains_on, PileView, height_of, sum_is_grains, IsSettledRecord, SettledView}
 use Rattle.sand_settle.proofs.Drops.{grains_kept}
 use Rattle.sand_settle.proofs.OneRecord.{same_parts, some_record}
 use Rattle.sand_settle.proofs.Records.{Settles, settles}
@@ -13,6 +13,7 @@ settling c = settles c.grains-before.ensures.pile c.requires.odometer_each c.req
 pub from_vec-settled-requires-clause-limit : goal.from_vec-settled-requires-clause-limit
 from_vec-settled-requires-clause-limit c =
     let all = settling (goal.at.from_vec-settled-requires-clause-limit c).After-grains-before in
+    let limit = ap most_grains_on c.shape.ensures.value in
     omega (arith, all.left, c.grains-before.ensures.pile.limit)
 
 pub overflow_sub-lost : goal.overflow_sub-lost

@@ -1,8 +1,8 @@
 -- What the drop does to the tiles it does to the record: heights, odometer and sums (`drops_on`). All topplings are
 -- paid for by the grains (`IsPaid`), and these are within the limit, so no sum overflows.
-use Rattle.sand_settle.proofs.Common.{◌<◌, ◌+◌, ap, arith, subst, sites, most_grains, IsAvalanche, DrivenView, grid_of_driven, driven_view, topplings_between, driven_record}
+use Rattle.sand_settle.proofs.Common.{◌<◌, ◌+◌, ap, arith, subst, sites, most_grains_on, IsAvalanche, DrivenView, grid_of_driven, driven_view, topplings_between, driven_record}
 use Rattle.sand_settle.specs.Waves.{HasDroppedInWaves}
-use Rattle.sand_settle.proofs.Drops.{drops_from, after_drop}
+use Rattle.sand_settle.proofs.Drops.{paid_few, drops_from, after_drop}
 use Rattle.sand_settle.proofs.Driven.{DropsOn, drops_on, few_counts, waves_on}
 use Rattle.sand_settle.proofs.driven_pile.DrivenPile.drop_with_waves.Goals.{After-drop_with_waves-waves}
 use Rattle.sand_settle.proofs.driven_pile.DrivenPile.drop_with_waves.Goals as goal
@@ -10,8 +10,16 @@ use Rattle.sand_settle.proofs.driven_pile.DrivenPile.drop_with_waves.Goals as go
 inside : (c : After-drop_with_waves-waves) → c.args.site < sites c.self.inside.start.pile.grid
 inside c = let same = ap (λ (v : DrivenView). sites (grid_of_driven v)) c.self.view_is in omega (arith, c.requires)
 
-room : (c : After-drop_with_waves-waves) → c.self.inside.grains < most_grains
-room c = omega (arith, c.if-self-eq-GRAIN_LIMIT.false, c.self.invariant.all_grains, c.self.invariant.paid.limit)
+room : (c : After-drop_with_waves-waves) → c.self.inside.grains < most_grains_on c.self.inside.start.pile.grid
+room c =
+    let limit = ap (λ (v : DrivenView). most_grains_on (grid_of_driven v)) c.self.view_is in
+    omega (
+      arith,
+      c.if-self-limit.false,
+      c.limit.ensures.value,
+      c.self.invariant.all_grains,
+      c.self.invariant.paid.limit,
+    )
 
 dropped : (c : After-drop_with_waves-waves)
     → DropsOn c.self.inside.start c.self.inside.fronts c.drop_with_waves-waves.new.self c.args.site
@@ -24,7 +32,6 @@ drop_with_waves-waves-requires-clause-bound c = λ j l. omega (arith, few_counts
 pub overflow_add-self : goal.overflow_add-self
 overflow_add-self c = omega (
   arith,
-  c.if-self-eq-GRAIN_LIMIT.false,
   c.self.invariant.all_grains,
   c.self.invariant.paid.limit,
   c.self.invariant.bound,
@@ -33,12 +40,12 @@ overflow_add-self c = omega (
 pub overflow_add-self-2 : goal.overflow_add-self-2
 overflow_add-self-2 c =
     let paid = (dropped (goal.at.overflow_add-self-2 c).After-drop_with_waves-waves).driven.paid in
-    omega (arith, paid.paid, paid.limit)
+    omega (arith, paid_few paid)
 
 pub overflow_add-self-3 : goal.overflow_add-self-3
 overflow_add-self-3 c =
     let paid = (dropped (goal.at.overflow_add-self-3 c).After-drop_with_waves-waves).driven.paid in
-    omega (arith, paid.paid, paid.limit)
+    omega (arith, paid.limit)
 
 pub overflow_add-self-4 : goal.overflow_add-self-4
 overflow_add-self-4 c = omega (arith, room (goal.at.overflow_add-self-4 c).After-drop_with_waves-waves)

@@ -1,6 +1,6 @@
 -- The odometer settles the start and the history (`LeadsTo`), so no grains are made and what is not on the pile is
 -- lost (`grains_left`). The topplings are bounded by the weight of the grains (`few_topplings`).
-use Rattle.sand_shared.proofs.Common.{ℕ, ◌+◌, ◌-◌, List, sum, refl, sym, ap, ◌∙◌, subst, arith, PileView, SettledView, IsOneThreads}
+use Rattle.sand_shared.proofs.Common.{ℕ, ◌+◌, ◌-◌, List, sum, refl, sym, ap, ◌∙◌, subst, arith, most_grains_on, PileView, SettledView, IsOneThreads}
 use Rattle.sand_shared.proofs.RecordSums.{LeadsTo, few_topplings, grains_left, one_threads, settled_record}
 use Rattle.sand_shared.proofs.record.Record.of_lists.Goals.{After-grains-2, After-shape}
 use Rattle.sand_shared.proofs.record.Record.of_lists.Goals as goal
@@ -17,6 +17,7 @@ leads c = record {
 
 pub from_vec-pile-requires-clause-limit : goal.from_vec-pile-requires-clause-limit
 from_vec-pile-requires-clause-limit c =
+    let limit = ap most_grains_on c.shape.ensures.value in
     omega (arith, grains_left (leads (goal.at.from_vec-pile-requires-clause-limit c).After-shape))
 
 pub overflow_sub-lost : goal.overflow_sub-lost

@@ -1,11 +1,16 @@
 -- Nobody else can change the pile of a whole pass: each look finds the start and the receipts, less Lu for its counts
 -- u (`looked_exactly`). By the load at the end the pass is on a lawful pile, so it has toppled no more than needed
 -- (`is_underway`), and the heights are within the limit (`left_few`).
-use Rattle.sand_shared.proofs.Common.{◌≡◌, ◌+◌, ◌*◌, [], ◌∷◌, length, sym, ap, ◌∙◌, subst, arith, length-append, slice_index, common_steps, sites, flow, IsToppled, View, Terms, grid_of_terms, toppled_by, looked, Stands, HasAll, start_and_receipts}
+use Rattle.sand_shared.proofs.Common.{ℕ, ◌≡◌, ◌+◌, ◌*◌, ◌<◌, List, [], ◌∷◌, ◌++◌, length, sym, ap, ◌∙◌, subst, arith, length-append, slice_index, common_steps, sites, flow, IsToppled, View, Terms, grid_of_terms, toppled_by, looked, Stands, HasAll, start_and_receipts}
 use Rattle.sand_shared.proofs.SeatOfPass.{looked_is}
 use Rattle.sand_shared.proofs.LastPileIsSettled.{left_few, is_underway}
 use Rattle.sand_shared.proofs.PassKnowsPile.{looked_exactly}
 use Rattle.sand_shared.proofs.steps.Words.read.Goals as goal
+
+-- one height more is read
+read_more : (xs : List ℕ) (n i : ℕ) (u s : ℕ → ℕ) → length xs ≡ i → ((k : ℕ) → k < i → slice_index xs k + 4 * u k ≡ s k)
+    → n + 4 * u i ≡ s i → (k : ℕ) → k < i + 1 → slice_index (xs ++ n ∷ []) k + 4 * u k ≡ s k
+read_more xs n i u s len before here k l = grind (arith, common_steps, len, before k, here)
 
 pub sites-preserved : goal.sites-preserved
 sites-preserved c =
@@ -34,7 +39,8 @@ sites-preserved c =
       view = is ∙ (λ q. looked v (sym spot q) (sym least q));
       len = ap (λ l. length l) items ∙ omega (arith, length-append xs (n ∷ []));
       room = omega (arith, c.push_reserved.ensures.capacity, inv.room);
-      left = λ k l. grind (arith, common_steps, items, inv.len, inv.left k, here);
+      left = λ k l. rw items (read_more xs n i (toppled_by v)
+          (λ j. start_and_receipts t v j + flow g (toppled_by v) j) inv.len inv.left here k (omega arith));
     }
 
 counted : (c : goal.After-learn) → c.sites-sites.result ≡ sites (grid_of_terms c.args.self.now.terms)
