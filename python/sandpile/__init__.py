@@ -4,7 +4,7 @@ The results are proved: libsandpile, which computes them, is written in Rattle (
 exports has a contract, from the settled pile with the least odometer to the sandpile group. This module
 checks the arguments and passes them on; it is tested, not proved.
 
-A pile is an array of shape (height, width) and any integer type; sides are from 1 to 256. Returned arrays are new, and of
+A pile is an array of shape (height, width) and any integer type; sides are from 1 to 8,192. Returned arrays are new, and of
 type int64, as are all fields of tables. No call changes its arguments. ``cylinder=True`` makes the first and the last column
 neighbours; a result or a run that is passed as a pile keeps its edge. A wrong value raises a `Fault` or another
 `ValueError`, a wrong type a `TypeError`, and then nothing has changed. Calls release the global interpreter lock, so threads
@@ -21,8 +21,10 @@ run in parallel.
 `random_recurrent`                      a random recurrent pile, each as likely as any other
 `Recurrent.tree`                        the spanning tree of a recurrent pile
 `lab`                                   a seeded run on many threads, by the program
+`grain_limit`                           how many grains a grid takes
 `show`                                  a picture
 `animate`                               avalanches, one after another
+`play`                                  a page where a click drops a grain
 ======================================  ==========================================================
 
 Examples
@@ -40,8 +42,9 @@ from .faults import Fault
 from .group import Recurrent, identity, recurrent
 from .laboratory import EPOCH, Run, lab
 from .pictures import show
+from .playing import Page, play
 from .replicating import REPLICA, Replicas, replicas
-from .settling import Settled, settle
+from .settling import Settled, grain_limit, settle
 from .sharing import Part, Record, SharedPile
 from .stationary import random_recurrent
 from .superstables import is_superstable, superstable
@@ -51,7 +54,8 @@ from .waves import WAVE
 
 __version__ = VERSION
 __all__ = [
-    "AVALANCHE", "EPOCH", "REPLICA", "WAVE", "Burned", "Drive", "Fault", "Part", "Record", "Recurrent", "Replicas", "Run",
-    "Settled", "SharedPile", "Tree", "animate", "burn", "identity", "is_superstable", "lab", "random_recurrent", "recurrent",
-    "replicas", "settle", "show", "superstable",
+    "AVALANCHE", "EPOCH", "REPLICA", "WAVE", "Burned", "Drive", "Fault", "Page", "Part", "Record", "Recurrent", "Replicas", "Run",
+    "Settled", "SharedPile", "Tree", "animate", "burn", "grain_limit", "identity", "is_superstable", "lab", "play",
+    "random_recurrent",
+    "recurrent", "replicas", "settle", "show", "superstable",
 ]

@@ -14,11 +14,13 @@ ma: Any = np.ma
 
 # For 0, 1, 2 and 3 grains. If there are other values, the colours are between these.
 COLOURS = ("#0b1d3a", "#2f6f9f", "#f2c14e", "#fdf6e3")
-LEVELS = 255
+MOST, LEVELS = 3, 255
 # For sites that stand out, such as those of a forbidden set.
 RED = "#c8102e"
 # The longer side of a picture has at most this many pixels. Each site has as many as fit, in whole numbers.
 PIXELS = 512
+# A side has at least a pixel for each site, but at most so many pixels: beyond, a pixel is the mean of a block of sites.
+_MOST_PIXELS = 1024
 # A notebook shows a few sites in a small picture: each has at most this many pixels a side.
 _MOST_OF_A_SITE = 32
 
@@ -37,7 +39,28 @@ def graded() -> NDArray[np.uint8]:
 
 def is_plain(values: Any) -> bool:
     """Whether all values are 0, 1, 2 or 3, which have a colour each."""
-    return bool(np.isin(ma.compressed(values), range(4)).all())
+    found = ma.compressed(values)
+    if found.size and found.dtype.kind in "iu":
+        return bool(found.min() >= 0 and found.max() <= MOST)
+    return bool(np.isin(found, range(MOST + 1)).all())
+
+
+def sites_of_pixel(shape: tuple[int, ...]) -> int:
+    """How many sites a side has the block that a pixel stands for; 1 if each site has a pixel or more."""
+    return -(-max(*shape, 1) // _MOST_PIXELS)
+
+
+def means(values: Any, side: int) -> Any:
+    """The mean of each block of so many sites a side, and of smaller ones at the ends. It is masked if any of its sites is, so that
+    none is hidden."""
+    rows, columns = (np.arange(0, length, side) for length in values.shape)
+    sums = np.add.reduceat(np.add.reduceat(ma.filled(values, 0), columns, 1, np.float64), rows, 0)
+    height, width = values.shape
+    found = sums / np.outer(np.diff(rows, append=height), np.diff(columns, append=width))
+    if not ma.is_masked(values):
+        return found
+    is_masked = np.logical_or.reduceat(np.logical_or.reduceat(ma.getmaskarray(values), columns, 1), rows, 0)
+    return ma.array(found, mask=is_masked)
 
 
 def png(sites: NDArray[np.uint8], palette: NDArray[np.uint8], scale: int) -> bytes:
@@ -55,13 +78,15 @@ def _chunk(kind: bytes, data: bytes) -> bytes:
 
 
 def picture(values: Any) -> bytes | None:
-    """The picture that a notebook shows of integers of 0 or more, in the colours of `show`; None unless they are on one grid.
-    Masked sites are red."""
+    """The picture that a notebook shows of integers of 0 or more, in the colours and with the pixels of `show`; None unless they are
+    on one grid. Masked sites are red."""
     if values.ndim != 2:
         return None
     colours, sites = rgb(*COLOURS), values
-    if not is_plain(values):
-        colours, sites = graded(), np.minimum(values * LEVELS // values.max(), LEVELS - 1)
+    is_small, has_colours = (side := sites_of_pixel(values.shape)) == 1, is_plain(values)
+    if not (is_small and has_colours):
+        shown = values if is_small else means(values, side)
+        colours, sites = graded(), np.minimum(shown * LEVELS // (MOST if has_colours else shown.max()), LEVELS - 1)
     palette = np.concatenate([colours, rgb(RED)])
     scale = max(1, min(PIXELS // max(values.shape), _MOST_OF_A_SITE))
     return png(ma.filled(sites, len(colours)).astype(np.uint8), palette, scale)

@@ -11,7 +11,7 @@ import numpy as np
 from numpy.typing import NDArray
 
 from ._arrays import Heights, count_of
-from ._png import COLOURS, RED, rgb
+from ._png import COLOURS, RED, means, rgb, sites_of_pixel
 from .driving import Drive
 from .pictures import check_matplotlib, new_axes
 
@@ -34,6 +34,8 @@ def animate(
     waves: bool = False,
 ) -> FuncAnimation:
     """Draws the next avalanches of a run, those at random sites. The run itself stays as it is.
+
+    With a side of more than 1,024 sites, a pixel has the mean colour of a block of sites, as few as fit.
 
     Parameters
     ----------
@@ -88,17 +90,24 @@ def animate(
     if toppling and waves:
         raise TypeError("an avalanche is drawn step by step (toppling) or wave by wave (waves), not both")
     number, start = count_of(drops, "drops"), copy.copy(run)
+    side = sites_of_pixel(start.shape)
     if ax is None:
-        ax, _ = new_axes(start.pile.shape)
+        ax, _ = new_axes(tuple(-(-length // side) for length in start.shape))
     plain, red = rgb(*COLOURS), rgb(RED)
-    colours = ListedColormap(np.concatenate([plain, (1 - _TINT) * plain + _TINT * red, red]) / 255)
-    image = ax.imshow(start.pile, cmap=colours, vmin=-0.5, vmax=_TOPPLES + 0.5, interpolation="nearest")
+    colours = np.concatenate([plain, (1 - _TINT) * plain + _TINT * red, red]) / 255
+
+    def pixels(heights: Heights) -> NDArray[Any]:
+        return heights if side == 1 else np.stack([means(channel[heights], side) for channel in colours.T], axis=2)
+
+    image = ax.imshow(
+        pixels(start.pile), cmap=ListedColormap(colours), vmin=-0.5, vmax=_TOPPLES + 0.5, interpolation="nearest"
+    )
     ax.set_axis_off()
     figure = ax.figure.figure  # that of a subfigure is the whole one, which alone can be saved
     frames = _steps if toppling else _waves if waves else _drops
 
     def draw(heights: Heights) -> tuple[AxesImage, ...]:
-        image.set_data(heights)
+        image.set_data(pixels(heights))
         return (image,)
 
     # Each time that the animation begins, another copy makes the drops.

@@ -2,35 +2,41 @@
 
 from __future__ import annotations
 
-from typing import TYPE_CHECKING, Any, overload
+from typing import TYPE_CHECKING, Any, cast, overload
 
 import numpy as np
 from numpy.typing import ArrayLike, NDArray
 
-from ._png import COLOURS, LEVELS, PIXELS, RED, Pictured, graded, is_plain, ma, rgb
+from . import clicking
+from ._png import COLOURS, LEVELS, MOST, PIXELS, RED, Pictured, graded, is_plain, ma, means, rgb, sites_of_pixel
+from ._memory import room_for
 from .faults import ShapeError
 
 if TYPE_CHECKING:
     from matplotlib.axes import Axes
     from matplotlib.figure import Figure
 
+    from .driving import Drive
+
 # A power of two, so inches are exact, and no pixel is lost.
 _PIXELS_AN_INCH = 128
 # For a colour bar, in pixels: its width, its distance from the picture and from the ends of the figure, what the figure is
 # wider with it, and the least height. Then the size of its text, in points.
 _BAR, _GAP, _ROOM, _LEAST_HEIGHT, _TEXT = 16, 14, 120, 128, 8
+# With a title, in pixels: its room, and the least width of the figure.
+_TITLE, _LEAST_WIDTH = 32, 384
 
 
 # Matplotlib's types say of all axes that they may be on a subfigure, which has no `savefig`. New ones are not.
 @overload
-def show(pile: ArrayLike | Pictured, ax: None = None) -> Any: ...
+def show(pile: ArrayLike | Pictured, ax: None = None, click: bool = False) -> Any: ...
 
 
 @overload
-def show(pile: ArrayLike | Pictured, ax: Axes) -> Axes: ...
+def show(pile: ArrayLike | Pictured, ax: Axes, click: bool = False) -> Axes: ...
 
 
-def show(pile: ArrayLike | Pictured, ax: Axes | None = None) -> Axes:
+def show(pile: ArrayLike | Pictured, ax: Axes | None = None, click: bool = False) -> Axes:
     """Draws a pile, an odometer, a mask, the times of burning or a tree, and returns the axes.
 
     Heights from 0 to 3 have one colour each. If there are other values, colours go from 0 to the greatest value, or from
@@ -38,12 +44,19 @@ def show(pile: ArrayLike | Pictured, ax: Axes | None = None) -> Axes:
     that are masked or not a number, and sites of a `Burned` that never burn. A tree is drawn as a maze, with a light square for
     each site and each edge.
 
+    With a side of more than 1,024 sites, a pixel is the mean of a block of sites, as the colour bar says: of 4 by 4 on 4,096 by
+    4,096, say. Its colour is between those of the heights, or between that of False and that of True, and red if any of its sites
+    is masked. Draw a part, such as ``pile[:1024, :1024]``, to see each site.
+
     Parameters
     ----------
     pile : array_like of numbers or bool, Recurrent, Settled, Drive, Run, Burned or Tree
         What to draw, shape (height, width).
     ax : matplotlib.axes.Axes, optional
         Where to draw; by default a new figure of about 512 pixels.
+    click : bool
+        Whether a click on a site of a `Drive` drops a grain there. The waves of its avalanche are then outlined, and the title
+        has the size and how many waves there were. It needs a window, as of ``matplotlib.pyplot.show()``.
 
     Returns
     -------
@@ -57,10 +70,11 @@ def show(pile: ArrayLike | Pictured, ax: Axes | None = None) -> Axes:
     ValueError
         If `pile` has no sites, or is not two-dimensional; the latter is also a `TypeError`.
     TypeError
-        If its values are not numbers.
+        If its values are not numbers, or a click is to drop grains on something other than a `Drive`.
 
     See Also
     --------
+    play : a page where a click drops a grain
     animate : the next avalanches of a run
 
     Notes
@@ -76,16 +90,26 @@ def show(pile: ArrayLike | Pictured, ax: Axes | None = None) -> Axes:
     from matplotlib.colors import ListedColormap
     from matplotlib.ticker import StrMethodFormatter
 
-    values = _values_of(pile)
-    colours, least, greatest = _colours_of(values)
+    if click:
+        clicking.check(pile)
+    with room_for("a picture"):
+        values = _values_of(pile)
+        side = sites_of_pixel(values.shape)
+        pixels, (colours, least, greatest) = (values, _colours_of(values)) if side == 1 else _means_of(values, side)
     has_bar, bar = len(colours) == LEVELS, None
     if ax is None:
-        ax, bar = new_axes(values.shape, has_bar)
+        ax, bar = new_axes(pixels.shape, has_bar, _TITLE if click else 0)
     colormap = ListedColormap(colours / 255).with_extremes(bad=RED)
-    image = ax.imshow(values, cmap=colormap, vmin=least, vmax=greatest, interpolation="nearest")
+    bottom, right = (side * length - 0.5 for length in pixels.shape)  # in sites
+    image = ax.imshow(pixels, cmap=colormap, vmin=least, vmax=greatest, interpolation="nearest", extent=(-0.5, right, bottom, -0.5))
     if has_bar:
-        ax.figure.colorbar(image, cax=bar, ax=ax, format=StrMethodFormatter("{x:,.6g}"))
+        label = "" if side == 1 else f"mean of {side} by {side} sites"
+        ax.figure.colorbar(image, cax=bar, ax=ax, format=StrMethodFormatter("{x:,.6g}")).set_label(label, size=_TEXT)
     ax.set_axis_off()
+    if click:
+        clicking.listen(
+            cast("Drive", pile), ax, lambda: image.set_data(_values_of(pile) if side == 1 else means(_values_of(pile), side))
+        )
     return ax
 
 
@@ -118,14 +142,26 @@ def _colours_of(values: Any) -> tuple[NDArray[np.uint8], float, float]:
     return graded(), min(0, values.min()), max(0, values.max())
 
 
-def new_axes(shape: tuple[int, ...], has_bar: bool = False) -> tuple[Axes, Axes | None]:
-    """A new figure with axes for a picture of this shape, in which each site has the same whole number of pixels, and with
-    axes for its colour bar."""
+def _means_of(values: Any, side: int) -> tuple[Any, tuple[NDArray[np.uint8], float, float]]:
+    """The means of the blocks of a picture, with their colours."""
+    pixels = means(values, side)
+    if values.dtype == bool:
+        return pixels, (np.linspace(rgb(COLOURS[0])[0], rgb(RED)[0], LEVELS).round().astype(np.uint8), 0, 1)
+    return pixels, (graded(), 0, MOST) if is_plain(values) else _colours_of(pixels)
+
+
+def new_axes(shape: tuple[int, ...], has_bar: bool = False, title: int = 0) -> tuple[Axes, Axes | None]:
+    """A new figure with axes for a picture of this shape, in which each site has the same whole number of pixels, with axes for
+    its colour bar, and with this much room for a title."""
     scale = max(1, PIXELS // max(*shape, 1))
     height, width = shape[0] * scale, shape[1] * scale
     high, wide = (max(height, _LEAST_HEIGHT), width + _ROOM) if has_bar else (height, width)
+    left = 0
+    if title:
+        high, wide = high + title, max(wide, _LEAST_WIDTH)
+        left = (wide - width) // 2
     figure = _new_figure(wide, high)
-    ax = figure.add_axes((0, 0, _fraction(width, wide), _fraction(height, high)))
+    ax = figure.add_axes((_fraction(left, wide), 0, _fraction(width, wide), _fraction(height, high)))
     if not has_bar:
         return ax, None
     bar = figure.add_axes(((width + _GAP) / wide, _GAP / high, _BAR / wide, 1 - 2 * _GAP / high))

@@ -82,6 +82,21 @@ class Animate(unittest.TestCase):
             self.assertIsNone(next(found, None))
             self.assertGreater(most, 2)
 
+    def test_pixels_of_a_large_grid(self):
+        import matplotlib.pyplot as plt
+
+        run = sandpile.Drive(np.full((40, 1100), 3), seed=1)
+        colours = np.array([[11, 29, 58], [47, 111, 159], [242, 193, 78], [253, 246, 227], [200, 16, 46]])
+        colours = np.concatenate([colours[:4], (colours[:4] + colours[4]) / 2, colours[4:]]) / 255
+        animation = sandpile.animate(run, 1, toppling=True)
+        frame = next(animation.new_frame_seq())
+        animation._func(frame)
+        shown = plt.gcf().axes[0].images[0].get_array()
+        blocks = colours[frame].reshape(20, 2, 550, 2, 3).mean(axis=(1, 3))
+        self.assertTrue(np.allclose(shown, blocks))
+        plt.gcf().canvas.draw()
+        plt.close()
+
     @needs_module("PIL")
     def test_it_is_saved_again_and_again(self):
         import matplotlib.pyplot as plt

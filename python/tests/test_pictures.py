@@ -97,6 +97,71 @@ class InNotebooks(unittest.TestCase):
         self.assertEqual(run._repr_png_(), settled._repr_png_())
 
 
+def plain_means(values, side):
+    """The mean of each block of sites, one by one."""
+    height, width = values.shape
+    starts = np.ndindex(-(-height // side), -(-width // side))
+    found = [values[side * i : side * i + side, side * j : side * j + side].mean() for i, j in starts]
+    return np.reshape(found, (-(-height // side), -(-width // side)))
+
+
+@needs_module("matplotlib")
+class Large(unittest.TestCase):
+    """With a side over 1,024, a pixel is the mean of a block of sites."""
+
+    def shown(self, values, size):
+        """The pixels of a picture, without its colour bar, and its axes."""
+        axes, pixels = drawn(values)
+        self.assertEqual(len(axes.figure.axes), 2)
+        return pixels[-size[0] :, : size[1]], axes
+
+    def test_a_site_has_a_pixel_up_to_1024(self):
+        pile = np.random.default_rng(1).integers(0, 4, (3, 1024))
+        self.assertTrue(np.array_equal(drawn(pile)[1], COLOURS[pile]))
+
+    def test_heights(self):
+        for shape, side, size in (((1025, 300), 2, (513, 150)), ((200, 2100), 3, (67, 700)), ((1, 8192), 8, (1, 1024))):
+            pile = np.random.default_rng(1).integers(0, 4, shape)
+            means = plain_means(pile, side)
+            self.assertEqual(means.shape, size)
+            pixels, axes = self.shown(pile, size)
+            expected = np.stack([np.interp(means, range(4), channel) for channel in COLOURS.T], axis=2)
+            self.assertLess(abs(pixels - expected).max(), 4)  # there are 255 colours
+            self.assertEqual(axes.figure.axes[1].get_ylabel(), f"mean of {side} by {side} sites")
+            self.assertEqual(axes.images[0].get_clim(), (0, 3))
+            bottom, right = (side * length - 0.5 for length in size)
+            self.assertEqual([*axes.images[0].get_extent()], [-0.5, right, bottom, -0.5])
+            settled = sandpile.settle(pile)
+            in_notebook = decoded(settled._repr_png_())
+            self.assertLess(abs(in_notebook - expected).max(), 4)
+
+    def test_an_odometer_and_a_mask(self):
+        odometer = np.random.default_rng(1).integers(0, 10**6, (70, 2048))
+        means = plain_means(odometer, 2)
+        axes = self.shown(odometer, means.shape)[1]
+        self.assertTrue(np.allclose(axes.images[0].get_array(), means))
+        mask = odometer > 900_000
+        pixels, axes = self.shown(mask, means.shape)
+        expected = COLOURS[0] + plain_means(mask, 2)[..., None] * (np.array(RED) - COLOURS[0])
+        self.assertLess(abs(pixels - expected).max(), 2)
+
+    def test_no_masked_site_is_hidden(self):
+        values = np.ones((1100, 40))
+        values[501, 7] = np.nan
+        pixels, _ = self.shown(values, (550, 20))
+        is_red = (pixels == RED).all(axis=2)
+        self.assertEqual((is_red.sum(), is_red[250, 3]), (1, True))
+        burned = sandpile.burn(np.pad(np.zeros((2, 2), int), ((600, 600), (5, 5)), constant_values=3))
+        is_red = (decoded(burned._repr_png_()) == RED).all(axis=2)
+        self.assertEqual(is_red.sum(), 2)  # of the four sites, which are in two blocks
+
+    def test_a_tree(self):
+        tree = sandpile.random_recurrent((600, 40), seed=1).tree()
+        shown = tree._shown()
+        self.assertEqual((shown.shape, (shown == 3).sum()), ((1201, 81), 2 * 600 * 40))
+        self.shown(tree, (601, 41))
+
+
 @needs_module("matplotlib")
 class Show(unittest.TestCase):
     def colours(self, values):

@@ -27,6 +27,8 @@ NUMBER = sum(int(part) * scale for part, scale in zip(sandpile.__version__.split
 # What earlier builds and other programs left in python/.
 LEFT = ["build/lib/sandpile/gone.py", "build/lib/sandpile/libsandpile.so.1", "sandpile.egg-info/SOURCES.txt"]
 LEFT += ["sandpile/__pycache__/gone.pyc", "sandpile/gone.so", "sandpile/notes.txt"]
+# The files of `sandpile.play`.
+PAGE = [path.name for path in (TOP / "python" / "sandpile" / "page").iterdir()]
 
 TRIED = """
 import sandpile
@@ -65,6 +67,7 @@ class Packed(unittest.TestCase):
     def test_it_has_what_is_installed_and_nothing_else(self):
         modules = {f"sandpile/{path.name}" for path in (TOP / "python" / "sandpile").glob("*.py")}
         others = {"sandpile/py.typed", "sandpile/libsandpile.so.1"}
+        others |= {f"sandpile/page/{name}" for name in PAGE}
         others |= {f"{NAME}.data/scripts/sandpile", f"{NAME}.data/data/share/man/man1/sandpile.1"}
         others |= {f"{NAME}.dist-info/{name}" for name in ("METADATA", "WHEEL", "RECORD")}
         with zipfile.ZipFile(wheel_of(self.top)) as wheel:
