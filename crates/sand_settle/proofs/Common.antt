@@ -1,5 +1,5 @@
 -- The names that many proofs of this crate use, passed on from one place.
-pub use Rattle.std.proofs.Common.{suc, ℕ, List, length, take, ◌≡◌, ◌+◌, ◌^◌, ◌<◌, ◌≤◌, refl, sym, ◌∙◌, ap, subst, arith, sum, slice_index, ◌*◌, [], ◌∷◌, ◌++◌, Option, Some, None, append_assoc, ⊎_elim, MatchOption, Bool, true, false, cond, ltb, min, ◌-◌, ◌/◌, ◌%◌, IfSome, if◌then◌else◌, replicate, get_or, ◌≢◌, drop, leb, not, ◌&&◌, map, inl, inr, rules, Result, IfOk, OnOk}
+pub use Rattle.std.proofs.Common.{suc, ◌⊎◌, ℕ, List, length, take, ◌≡◌, ◌+◌, ◌^◌, ◌<◌, ◌≤◌, refl, sym, ◌∙◌, ap, subst, arith, sum, slice_index, ◌*◌, [], ◌∷◌, ◌++◌, Option, Some, None, append_assoc, ⊎_elim, MatchOption, Bool, true, false, cond, ltb, min, ◌-◌, ◌/◌, ◌%◌, IfSome, if◌then◌else◌, replicate, get_or, ◌≢◌, drop, leb, not, ◌&&◌, map, inl, inr, rules, Result, IfOk, OnOk}
 pub use Rattle.std.proofs.lemmas.List.{ext_get_or, length-append, append-nil, length-replicate, get_or-set_same, get_or-set_other, drop_more, length-map, get_or-replicate, get_or_past, take_at, length-set, nil_from_length}
 pub use Rattle.std.proofs.lemmas.Bool.{cases_lt, ltb-true, ltb-false, lt-leb, le-leb, leb-true, leb-false, and_parts, cases_eq}
 pub use Rattle.sand_model.specs.Grid.{sites, Grid, missing, joins, column, row, columns_apart, places, IsGrid}

@@ -1,5 +1,5 @@
 -- The sites of a row near a site, a list that is written row by row, and what an avalanche leaves as it is.
-use Rattle.sand_settle.proofs.Common.{ℕ, Bool, true, false, List, Option, Some, None, cond, ltb, min, ◌≡◌, ◌+◌, ◌-◌, ◌*◌, ◌/◌, ◌%◌, ◌<◌, ◌≤◌, refl, sym, ◌∙◌, ap, arith, ⊎_elim, IfSome, slice_index, if◌then◌else◌, cases_lt, ltb-true, ltb-false, Grid, sites, joins, column, row, columns_apart, places, flow, value_at, height_of, one_at_other, Avalanche, IsAvalanche, SettledView, odometer_of, TakesGrain, topplings_between, AgreeFar}
+use Rattle.sand_settle.proofs.Common.{ℕ, Bool, true, false, List, Option, Some, None, cond, ltb, min, ◌≡◌, ◌+◌, ◌-◌, ◌*◌, ◌/◌, ◌%◌, ◌<◌, ◌≤◌, ◌⊎◌, inr, refl, sym, ◌∙◌, ap, arith, ⊎_elim, IfSome, slice_index, if◌then◌else◌, cases_lt, ltb-true, ltb-false, Grid, sites, joins, column, row, columns_apart, places, flow, value_at, height_of, one_at_other, Avalanche, IsAvalanche, SettledView, odometer_of, TakesGrain, topplings_between, AgreeFar}
 use Rattle.std.specs.Int.{abs_diff}
 use Rattle.std.proofs.lemmas.Nat.{div-mul-add, mod-mul-add, div-add-mod', div_below, mod_below, le-div}
 use Rattle.sand_model.specs.Grid.{distance, north, west, east, south}
@@ -42,27 +42,29 @@ far_after g site i reach last y inside is past after =
 
 -- ---- a list whose rows before row y are written, and that of row y, between two sites
 
-pub row_more : (g : Grid) (site reach y first end : ℕ) (v : ℕ → ℕ) (start list new : List ℕ)
+pub row_near : (g : Grid) (site reach y first end : ℕ) (v : ℕ → ℕ) (list new : List ℕ)
     → ((i : ℕ) → row g i ≡ y → distance g site i ≤ reach → (first ≤ i) × (i < end))
-    → AgreeFar g site reach (slice_index start) v
     → ((i : ℕ) → first ≤ i → i < end → slice_index new i ≡ v i)
     → ((i : ℕ) → i < first → slice_index new i ≡ slice_index list i)
-    → ((i : ℕ) → end ≤ i → slice_index new i ≡ slice_index list i)
-    → ((i : ℕ) → i < sites g → i < y * g.width → slice_index list i ≡ v i)
-    → ((i : ℕ) → y * g.width ≤ i → slice_index list i ≡ slice_index start i)
-    → y * g.width ≤ first → (i : ℕ) → i < sites g → i < (y + 1) * g.width → slice_index new i ≡ v i
-row_more g site reach y first end v start list new near far there before after above rest begin i inside less = ⊎_elim
-    (λ (old : i < y * g.width). before i (omega arith) ∙ above i inside old)
-    (λ (low : y * g.width ≤ i).
-    let off : slice_index new i ≡ slice_index list i → ((first ≤ i) × (i < end) → ⊥) → slice_index new i ≡ v i =
-    λ same out. same ∙ rest i low ∙ far i inside (⊎_elim
-    (λ (away : reach < distance g site i). away)
-    (λ (close : distance g site i ≤ reach). absurd (out (near i (in_row g.width y i low less) close)))
-    (cases_lt reach (distance g site i))) in
-    ⊎_elim (λ (left : i < first). off (before i left) (λ p. omega (arith, p.0)))
-    (λ (right : first ≤ i). ⊎_elim (λ (within : i < end). there i right within)
-    (λ (past : end ≤ i). off (after i past) (λ p. omega (arith, p.1))) (cases_lt i end)) (cases_lt i first))
+    → ((i : ℕ) → i < sites g → i < y * g.width → distance g site i ≤ reach → slice_index list i ≡ v i)
+    → y * g.width ≤ first
+    → (i : ℕ) → i < sites g → i < (y + 1) * g.width → distance g site i ≤ reach → slice_index new i ≡ v i
+row_near g site reach y first end v list new near there before above begin i inside less close = ⊎_elim
+    (λ (old : i < y * g.width). before i (omega arith) ∙ above i inside old close)
+    (λ (low : y * g.width ≤ i). let within = near i (in_row g.width y i low less) close in there i within.0 within.1)
     (cases_lt i (y * g.width))
+
+pub row_other : (first end i old n : ℕ) (list new : List ℕ)
+    → (first ≤ i → i < end → slice_index new i ≡ n)
+    → (i < first → slice_index new i ≡ slice_index list i)
+    → (end ≤ i → slice_index new i ≡ slice_index list i)
+    → (slice_index list i ≡ old) ⊎ (slice_index list i ≡ n)
+    → (slice_index new i ≡ old) ⊎ (slice_index new i ≡ n)
+row_other first end i old n list new there before after was = ⊎_elim
+    (λ (left : i < first). rw (before left) was)
+    (λ (right : first ≤ i). ⊎_elim (λ (within : i < end). inr (there right within))
+    (λ (past : end ≤ i). rw (after past) was) (cases_lt i end))
+    (cases_lt i first)
 
 -- ---- neighbours
 

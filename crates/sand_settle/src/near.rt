@@ -4,7 +4,7 @@
 //! more than one. So a list that was right before the drop is right again once the entries near that site are written. An
 //! avalanche that stays near its drop costs little on a large grid, too.
 
-ghost use Rattle.std.specs.Prelude.{◌≡◌, ℕ, ◌+◌, ◌*◌, ◌^◌, ◌<◌, ◌≤◌, length, slice_index};
+ghost use Rattle.std.specs.Prelude.{◌≡◌, ◌⊎◌, ℕ, ◌+◌, ◌*◌, ◌^◌, ◌<◌, ◌≤◌, length, slice_index};
 ghost use Rattle.sand_model.specs.Grid.{sites, column, row, columns_apart, distance};
 ghost use Rattle.sand_settle.specs.Near.{Tells, AgreeFar};
 
@@ -66,8 +66,8 @@ fn write_between<F: Fn(usize) -> u64>(list: &mut [u64], first: usize, end: usize
     }
 }
 
-/// Writes a number to the entry of each site within a reach of a site. If a list has these numbers farther away, it then has
-/// them at each site.
+/// Writes a number to the entry of each site within a reach of a site. Any other entry gets its number, too, or stays as it is.
+/// If a list has these numbers farther away, it then has them at each site.
 pub fn write_near<F: Fn(usize) -> u64>(
     shape: Shape,
     site: usize,
@@ -80,6 +80,10 @@ pub fn write_near<F: Fn(usize) -> u64>(
     requires len { length list.old ≡ sites shape }
     requires may { (i : ℕ) → i < sites shape → F.pre numbers.now i }
     ensures len { length list.new ≡ length list.old }
+    ensures near { (v : ℕ → ℕ) → Tells (sites shape) (F.post numbers.now) v
+        → (i : ℕ) → i < sites shape → distance shape site i ≤ reach → slice_index list.new i ≡ v i }
+    ensures other { (v : ℕ → ℕ) → Tells (sites shape) (F.post numbers.now) v → (i : ℕ) → i < sites shape
+        → (slice_index list.new i ≡ slice_index list.old i) ⊎ (slice_index list.new i ≡ v i) }
     ensures written { (v : ℕ → ℕ) → Tells (sites shape) (F.post numbers.now) v
         → AgreeFar shape site reach (slice_index list.old) v
         → (i : ℕ) → i < sites shape → slice_index list.new i ≡ v i }
