@@ -12,8 +12,10 @@
    memory. No state is kept between calls, except behind handles (below): threads may call concurrently, on different
    arrays.
 
-   The library needs a processor of x86-64-v2, as most since 2009 are, or of x86-64-v3 if it was built for that, which is
-   if it exports `sandpile_x86_64_v3`. On an older one, a call ends the program by SIGILL.
+   The library needs a processor of x86-64-v2, as most since 2009 are; on an older one, a call ends the program by SIGILL.
+   If it was built for x86-64-v3, it exports `sandpile_x86_64_v3`, and on an older processor the loader of glibc refuses it:
+   "CPU ISA level is lower than required". So it does a program in which GNU ld has linked the static library, if glibc itself
+   is linked dynamically. Any other program with a static library for x86-64-v3 has to look at the processor itself.
 
    A call needs at most 24 KiB of stack. Do not call from a signal handler, or in a forked child if its parent had several
    threads. Memory comes from `malloc`, `realloc` and `free`. In a program that replaces them, all three must belong to one

@@ -94,6 +94,8 @@ def _load() -> ctypes.CDLL:
     try:
         library = ctypes.CDLL(place)
     except OSError as error:
+        if "CPU ISA level" in str(error):  # the loader does not say what this processor lacks
+            _check_processor(place, _processor.NEWER)
         raise ImportError(f"{place} cannot be loaded ({error}); in the repository, ./build library builds it") from None
     _check_processor(place, _processor.NEWER if hasattr(library, _IS_NEWER) else _processor.OLDEST)
     try:

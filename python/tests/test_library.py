@@ -2,12 +2,14 @@
 
 import os
 import shutil
+import subprocess
 import unittest
 from unittest import mock
 
+import processor
 import sandpile
 from sandpile import _library, _processor
-from tools import needs, new_folder, ran
+from tools import LIBRARY, needs, new_folder, ran
 
 NAMES = {f"sandpile_{name}" for name in _library._TAKES}
 # What the x86-64 psABI asks of each kind of processor, by the kernel's names.
@@ -52,6 +54,34 @@ class Loaded(unittest.TestCase):
                     self.loaded(name)
                 told.unlink()
                 self.loaded(name)
+
+    def test_a_library_that_the_loader_finds_too_new(self):
+        told, refused = new_folder(self) / "cpuinfo", OSError("x: CPU ISA level is lower than required")
+        with mock.patch.dict(_processor.lacking.__globals__, _TOLD=told), mock.patch("ctypes.CDLL", side_effect=refused):
+            for text, words in (("sse4_2", "x86-64-v3, but .* lacks cx16, .*fma"), (" ".join(KINDS["x86-64-v3"]), "cannot be loaded")):
+                told.write_text(f"flags\t\t: {text}\n")
+                with self.assertRaisesRegex(ImportError, words):
+                    self.loaded("x")
+
+    @needs("cc", "qemu-x86_64")
+    def test_the_loader_refuses_what_needs_a_newer_processor(self):
+        folder = new_folder(self)
+        (folder / "needs").write_bytes(processor.NEEDS_NEWER)
+        (folder / "note.s").write_text('.section .note.gnu.property,"a",@note\n.balign 8\n.incbin "needs"\n')
+        (folder / "main.c").write_text("int two(void);\nint main(void) { return two() - 2; }\n")
+        (folder / "two.c").write_text("int two(void) { return 2; }\n")
+        ran("cc", "-shared", "-fPIC", "two.c", "note.s", "-o", "libtwo.so", cwd=folder)
+        ran("cc", "main.c", "-L.", "-ltwo", f"-Wl,-rpath,{folder}", "-o", "main", cwd=folder)
+        for kind, status in (("SandyBridge", 127), ("Haswell", 0)):
+            done = subprocess.run(["qemu-x86_64", "-cpu", kind, folder / "main"], capture_output=True, text=True)
+            self.assertEqual((done.returncode, "CPU ISA level" in done.stderr), (status, status != 0), done.stderr)
+
+    @needs("readelf")
+    def test_the_built_libraries_say_what_they_need(self):
+        is_newer = hasattr(_library.library, "sandpile_x86_64_v3")
+        for name in ("libsandpile.so.1", "libsandpile.a"):
+            with self.subTest(name):
+                self.assertEqual("x86-64-v3" in ran("readelf", "--notes", "--wide", LIBRARY / name), is_newer)
 
     def test_the_newest_kind(self):
         told = new_folder(self) / "cpuinfo"

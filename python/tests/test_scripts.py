@@ -221,7 +221,8 @@ class OfBuild(WithToolchain):
         for cpu in (processor.OLDEST, processor.NEWER):
             self.run_in("./build", "library", "--cpu", cpu)
             linked, = (line for line in self.noted() if line.startswith("links "))
-            self.assertEqual("--defsym=sandpile_x86_64_v3=1" in linked, cpu == processor.NEWER)
+            for word in ("--defsym=sandpile_x86_64_v3=1", "needs.o"):
+                self.assertEqual(word in linked.split(), cpu == processor.NEWER)
 
     @lacks_rt
     def test_without_the_toolchain(self):
