@@ -6,16 +6,21 @@
    drops included, as `sandpile_grain_limit` says: 1,099,511,627,775 on up to 361 rows, fewer on more.
 
    Functions that list faults return 0 or the number of a fault; after a fault, no array or number passed in has
-   changed. Faults are listed in the order in which they are checked.
+   changed. Faults are listed in the order in which they are checked. Only MEMORY may come before one that is listed after
+   "then".
 
-   An array of length 0 may be null; all other pointers must not be. No two pointers of one call may point to the same
-   memory. No state is kept between calls, except behind handles (below): threads may call concurrently, on different
-   arrays.
+   An array of length 0 may be null. No other pointer may be, also not one to a number that is not wanted. No two pointers
+   of one call may point to the same memory (`sandpile_pass_join` says what it does if they do). No state is kept between
+   calls, except behind handles (below): threads may call concurrently, on different arrays, or on one array that all their
+   calls take as `const`.
 
    The library needs a processor of x86-64-v2, as most since 2009 are; on an older one, a call ends the program by SIGILL.
    If it was built for x86-64-v3, it exports `sandpile_x86_64_v3`, and on an older processor the loader of glibc refuses it:
    "CPU ISA level is lower than required". So it does a program in which GNU ld has linked the static library, if glibc itself
    is linked dynamically. Any other program with a static library for x86-64-v3 has to look at the processor itself.
+
+   Calls compute with floating-point numbers, too. If a program has made inexact results trap (`feenableexcept`), SIGFPE ends
+   it. Calls may raise floating-point flags. They return the same in each rounding mode.
 
    A call needs at most 24 KiB of stack. Do not call from a signal handler, or in a forked child if its parent had several
    threads. Memory comes from `malloc`, `realloc` and `free`. In a program that replaces them, all three must belong to one
@@ -139,9 +144,9 @@ uint32_t sandpile_identity(size_t width, size_t height, bool cylinder, uint64_t 
    TOO_MANY_GRAINS, MEMORY. */
 uint32_t sandpile_recurrent(size_t width, size_t height, bool cylinder, uint64_t *heights, size_t heights_length);
 
-/* Replaces the first of two recurrent piles with their sum. `heights_length` and `others_length` are width times height.
-   SIDE, NARROW, LENGTH, TOO_MANY_GRAINS; then UNSTABLE or NOT_RECURRENT for the first pile, then for the second; or
-   MEMORY. */
+/* Replaces the first of two recurrent piles with their sum. To double a pile take `sandpile_multiple`, since the two may
+   not be one array. `heights_length` and `others_length` are width times height. SIDE, NARROW, LENGTH, TOO_MANY_GRAINS; then
+   UNSTABLE or NOT_RECURRENT for the first pile, then for the second; or MEMORY. */
 uint32_t sandpile_add(size_t width, size_t height, bool cylinder, uint64_t *heights, size_t heights_length,
                       const uint64_t *others, size_t others_length);
 
@@ -188,7 +193,7 @@ uint32_t sandpile_tree(size_t width, size_t height, bool cylinder, const uint64_
                        uint8_t *directions, size_t directions_length);
 
 /* Writes the pile of a tree. `directions_length` and `heights_length` are width times height. NOT_TREE is returned for
-   directions that lead around a cycle, and for a direction above 3. SIDE, NARROW, LENGTH, NOT_TREE, MEMORY. */
+   directions that lead around a cycle, and for a direction above 3. SIDE, NARROW, LENGTH; then NOT_TREE or MEMORY. */
 uint32_t sandpile_of_tree(size_t width, size_t height, bool cylinder, const uint8_t *directions, size_t directions_length,
                           uint64_t *heights, size_t heights_length);
 
@@ -239,11 +244,11 @@ typedef struct sandpile_wave {
     uint64_t size;   /* sites that topple in it */
 } sandpile_wave;
 
-/* The same, and writes the waves of the first drop in order, then those of the next, and how many there are in all; `waves` does
-   not change behind them. A drop has as many waves as its site topples: at most the greatest distance of a site to the nearest
-   open edge, counted from 1, which is (min(width, height) + 1) / 2, or (height + 1) / 2 on a cylinder. `avalanches_length` is
-   `drops_length`, and `waves_length` is at least that times this distance. The call needs no memory. EMPTY, LENGTH, NO_SITE,
-   FULL. */
+/* Drops grains as `sandpile_drive_drop` does. Also writes the waves of the first drop in order, then those of the next, and how
+   many there are in all; `waves` does not change behind them. A drop has as many waves as its site topples: at most the greatest
+   distance of a site to the nearest open edge, counted from 1, which is (min(width, height) + 1) / 2, or (height + 1) / 2 on a
+   cylinder. `avalanches_length` is `drops_length`, and `waves_length` is at least that times this distance. The call needs no
+   memory. EMPTY, LENGTH, NO_SITE, FULL. */
 uint32_t sandpile_drive_waves(sandpile_drive *drive, const size_t *drops, size_t drops_length, sandpile_avalanche *avalanches,
                               size_t avalanches_length, sandpile_wave *waves, size_t waves_length, size_t *count);
 
@@ -254,14 +259,14 @@ uint32_t sandpile_drive_avalanche(sandpile_drive *drive, size_t site, sandpile_a
 
 /* Writes the heights and, since `sandpile_drive_new` and with its settling, how often each site toppled, the number of
    topplings and the grains lost; and how many grains have been dropped. `heights_length` and `odometer_length` are each width
-   times height, or 0 if that array is not to be written. EMPTY, LENGTH. */
+   times height, or 0 if that array is not to be written; the three numbers always are. EMPTY, LENGTH. */
 uint32_t sandpile_drive_read(const sandpile_drive *drive, uint64_t *heights, size_t heights_length, uint64_t *odometer,
                              size_t odometer_length, uint64_t *topplings, uint64_t *lost, uint64_t *drops);
 
 /* Writes the height of a site and, since `sandpile_drive_new` and with its settling, how often it toppled. EMPTY, NO_SITE. */
 uint32_t sandpile_drive_site(const sandpile_drive *drive, size_t site, uint64_t *height, uint64_t *topplings);
 
-/* Frees what a handle holds, if anything, and empties it. */
+/* Frees what a handle holds, if anything, and empties it. Unlike that of `free`, the pointer must not be null. */
 void sandpile_drive_free(sandpile_drive *drive);
 
 /* A pass of a shared pile: the right to drop some grains on it and to topple some of its rows. Threads drop and topple at
@@ -324,8 +329,8 @@ uint32_t sandpile_pass_settle(sandpile_pass *pass, uint64_t *heights, size_t hei
                               size_t odometer_length, size_t *history, size_t history_length, uint64_t *topplings,
                               uint64_t *lost);
 
-/* Frees what a handle holds, if anything, and empties it. If a pass that is freed had quota, drops or rows, `settle` by any
-   other pass of its pile returns MISSING from then on. */
+/* Frees what a handle holds, if anything, and empties it. The pointer must not be null. If a pass that is freed had quota, drops
+   or rows, `settle` by any other pass of its pile returns MISSING from then on. */
 void sandpile_pass_free(sandpile_pass *pass);
 
 #ifdef __cplusplus

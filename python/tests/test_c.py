@@ -1,10 +1,13 @@
 """The header and the library in C: the exports, each call with values worked out by hand and on a small stack; these values and
 the example under valgrind and AddressSanitizer."""
 
+import ctypes
 import re
 import unittest
 
 import exports
+import numpy as np
+import sandpile
 from tools import LIBRARY, TOP, needs, new_folder, ran
 
 HERE = TOP / "python" / "tests"
@@ -52,6 +55,15 @@ class FromC(unittest.TestCase):
         text = ran(self.built(STACK, "-O2", "-pthread"))
         taken = dict(re.findall(r"(sandpile_\w+): (\d+) bytes", text))
         self.assertEqual(taken.keys(), exports.calls(exports.exported()))
+
+    def test_the_rounding_mode_changes_nothing(self):
+        set_mode, results = ctypes.CDLL("libm.so.6").fesetround, set()
+        pile = np.random.default_rng(1).integers(0, 60, (90, 80))
+        for mode in (0x400, 0x800, 0xC00, 0):  # down, up, to zero and, in the end, to the nearest
+            self.assertEqual(set_mode(mode), 0)
+            settled, neutral = sandpile.settle(pile), sandpile.identity((70, 70), cylinder=True)
+            results.add((settled.pile.tobytes(), settled.odometer.tobytes(), neutral.pile.tobytes()))
+        self.assertEqual(len(results), 1)
 
     @needs("cc")
     def test_the_example(self):
