@@ -212,11 +212,17 @@ static void tree_faults(void) {
 /* The keystream of key and nonce 0 (see `sites`) begins with the byte 3e, whose pairs of bits, from the lowest on, are 2, 3, 3 and
    0. The first walk goes east and south into the sink, and the second one, from the last site, south. That is the tree 2 3 3 of
    depths 2 1 1: all edges of the first site lead to what is less deep, and none to depth 1 comes before its own, so that it has
-   4 - 4 grains. */
+   4 - 4 grains. With a 1 in front of the key the byte is cf, whose pairs are 3, 3, 0 and 3, and the tree 3 3 0; in front of the
+   nonce 2b, with 3, 2, 2 and 0, and the tree 3 2 2. On a cylinder its last site leads to the first, and the depths are 1 3 2. */
 static void random_pile(void) {
-    const uint64_t pile[3] = {0, 3, 3};
-    uint64_t heights[3] = {7, 7, 7};
-    assert(sandpile_random(3, 1, false, 0, 0, heights, 3) == 0 && ARE_EQUAL(heights, pile));
+    const struct { bool cylinder; uint64_t seed, stream, pile[3]; } rows[] = {
+        {false, 0, 0, {0, 3, 3}}, {false, 1, 0, {3, 3, 1}}, {false, 0, 1, {3, 1, 2}}, {true, 1, 0, {3, 3, 2}}, {true, 0, 1, {3, 0, 1}},
+    };
+    for (size_t i = 0; i < sizeof rows / sizeof *rows; i++) {
+        uint64_t heights[3] = {7, 7, 7};
+        assert(sandpile_random(3, 1, rows[i].cylinder, rows[i].seed, rows[i].stream, heights, 3) == 0);
+        assert(ARE_EQUAL(heights, rows[i].pile));
+    }
 }
 
 /* A toppling of each site takes 3 2 3 grains, which is recurrent; on a cylinder 2 2 2. */

@@ -1,7 +1,7 @@
 //! Random trees: those of three streams, worked out by another program from the words of ChaCha8 and from Wilson's algorithm
-//! as he states it, with loops erased as they close; and how often each tree of a square comes.
+//! as he states it, with loops erased as they close; the piles of three; and how often each tree of a square comes.
 
-use crate::random_tree;
+use crate::{random_recurrent, random_tree};
 use sand_model::{Edge, Shape};
 use std::alloc::Global;
 use std::test::Fail;
@@ -27,6 +27,22 @@ fn the_trees_of_three_streams(rt: HostRuntime) -> Result<(), Fail> {
             &[2, 0, 1, 0, 3, 3, 0, 2, 3, 3, 1, 1]
         )
     );
+    Ok(())
+}
+
+fn has_heights(alloc: Global, shape: Shape, seed: u64, stream: u64, heights: &[u64]) -> bool {
+    random_recurrent(alloc, shape, seed, stream).is_ok_and(|recurrent| recurrent.pile().heights()
+        == heights)
+}
+
+// The formula of the other program follows the directions of each site to the sink.
+#[test]
+fn the_piles_of_three_streams(rt: HostRuntime) -> Result<(), Fail> {
+    let wide = Shape::new(3, 2)?;
+    assert!(rt; has_heights(rt.alloc(), wide, 7, 1, &[0, 2, 2, 2, 2, 0]));
+    let round = Shape::with_edge(3, 3, Edge::Cylinder)?;
+    assert!(rt; has_heights(rt.alloc(), round, 7, 2, &[1, 1, 3, 1, 3, 1, 2, 2, 3]));
+    assert!(rt; has_heights(rt.alloc(), round, 2, 7, &[2, 3, 2, 3, 2, 2, 3, 2, 3]));
     Ok(())
 }
 
