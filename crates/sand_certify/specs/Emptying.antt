@@ -11,7 +11,7 @@ pub record IsLowAt (g : Grid) (u : ℕ → ℕ) (i : ℕ) : Type 0 where
 pub record IsLow (g : Grid) (u : ℕ → ℕ) : Type 0 where
   pub each : (i : ℕ) → i < sites g → IsLowAt g u i
 
--- counts u for which Lu is a stable pile
+-- counts u below 2^54 for which Lu is a stable pile
 pub record IsEmptying (g : Grid) (counts : List ℕ) : Type 0 where
   pub counts_each : length counts ≡ sites g
   pub bound : All (λ n. n < 2 ^ 54) counts

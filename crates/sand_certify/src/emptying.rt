@@ -55,7 +55,7 @@ fn heights_emptied(
 }
 
 /// The heights of the stable pile that is empty once each site has toppled as often as `counts` says. Returns None if
-/// there is no such pile, and an error if an allocation fails.
+/// there is no such pile or a count is 2^54 or more, and an error if an allocation fails.
 pub fn emptied(alloc: Global, shape: Shape, counts: &[u64]) -> Result<Option<Vec<u64>>, AllocError>
     ensures exactly { IfOk result (λ o. IsSome o ↔ IsEmptying shape counts.now) }
     ensures len { IfOk result (λ o. IfSome o (λ heights. length heights.items ≡ sites shape)) }

@@ -9,7 +9,7 @@ pub record Covers (g : Grid) (site : ℕ) (h w : ℕ → ℕ) : Type 0 where
   pub started : 1 ≤ w site
   pub at_most_three : (j : ℕ) → j < sites g → j ≢ site → h j + flow g w j ≤ 4 * w j + 3
 
--- one wave leads from the heights h to k: the dropped site has 4, and topples once; of the other sites only those topple
+-- one wave leads from the heights h to k: the dropped site has 4 or more, and topples once; of the other sites only those topple
 -- that this brings to 4, each once, and then they have at most 3; so v is the least that covers h
 pub record IsOneWave (g : Grid) (site : ℕ) (h v k : ℕ → ℕ) : Type 0 where
   pub due : 4 ≤ h site
