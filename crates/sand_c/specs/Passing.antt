@@ -166,13 +166,14 @@ pub record GivesAway (old : Option OwnedPassView) (Step : OwnedPassView → Owne
   pub holds_given : child ≡ Some given
   pub step : Step before after given
 
--- a call takes what another handle held
+-- a call takes what another handle held, whose rows are next to those of its own, unless one has none
 pub record TakesOver (old other new : Option OwnedPassView) : Type 0 where
   pub before : OwnedPassView
   pub taken : OwnedPassView
   pub after : OwnedPassView
   pub held : old ≡ Some before
   pub held_other : other ≡ Some taken
+  pub may : are_together before taken ≡ Ok before
   pub holds : new ≡ Some after
   pub joined : AreJoined before taken after
 
