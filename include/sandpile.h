@@ -16,8 +16,8 @@
 
    The library needs a processor of x86-64-v2, as most since 2009 are; on an older one, a call ends the program by SIGILL.
    If it was built for x86-64-v3, it exports `sandpile_x86_64_v3`, and on an older processor the loader of glibc refuses it:
-   "CPU ISA level is lower than required". So it does a program in which GNU ld has linked the static library, if glibc itself
-   is linked dynamically. Any other program with a static library for x86-64-v3 has to look at the processor itself.
+   "CPU ISA level is lower than required". The loader also refuses a program in which GNU ld has linked the static library, if
+   the program loads glibc. Any other program with a static library for x86-64-v3 has to check the processor itself.
 
    Calls compute with floating-point numbers, too. If a program has made inexact results trap (`feenableexcept`), SIGFPE ends
    it. Calls may raise floating-point flags. They return the same in each rounding mode.
