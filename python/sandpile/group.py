@@ -1,7 +1,7 @@
 """The sandpile group (Dhar 1990): recurrent piles, added by settling their sum.
 
-A sum settles one pile, of heights up to 6, and an inverse two. The n-th multiple is made by doubling. The space is proportional
-to the sites. A stack of elements is computed pile by pile.
+A sum settles one pile, of heights up to 6, and an inverse two. A multiple settles as many piles as n has digits, in the greatest base
+that a pile has room for. The space is proportional to the sites. A stack of elements is computed pile by pile.
 """
 
 from __future__ import annotations
@@ -14,7 +14,7 @@ from numpy.typing import ArrayLike, NDArray
 from ._arrays import (
     HasPile, Heights, checked_edge, directions_of, edge_of, heights_and_edge, index_of, new_array, shape_of, site_at,
 )
-from ._library import call, most_grains
+from ._library import call
 from ._memory import room_for
 from ._stacks import each_class, each_pile
 from .burning import burned, burned_stack
@@ -329,23 +329,16 @@ class Recurrent(HasPile):
         return self._multiple(n) if n >= 0 else (-self)._multiple(-n)
 
     def _multiple(self, n: int) -> Recurrent:
-        """The sum of `n` copies. The library takes an `n` below 2**64. The bits of a larger one are read from the highest
-        on, as many at once as a pile has room for: the pile so far is doubled for each, and the copies are added."""
+        """The sum of `n` copies. The library takes an `n` below 2**64, so the bits of a larger one are read from the highest on,
+        63 at once."""
         if n < 1 << 64:
             return self._made("multiple", n)
-        height, width = self.shape
-        most = (most_grains(height, width) // (3 * height * width)).bit_length() - 2
-        bits = f"{n:b}"
-        bits = bits.zfill(-(-len(bits) // most) * most)
-        heights = self._copied()
-        heights.fill(0)
-        for at in range(0, len(bits), most):
-            with room_for(_COPY):
-                heights <<= most
-                heights += self._pile * int(bits[at : at + most], 2)
-            for one in _piles(heights):
-                call("recurrent", self.shape, self._cylinder, one)
-        return Recurrent._known(heights, self._cylinder)
+        left = (n.bit_length() - 1) // 63 * 63
+        total = self._made("multiple", n >> left)
+        while left:
+            left -= 63
+            total = total._made("multiple", 1 << 63) + self._made("multiple", n >> left & (1 << 63) - 1)
+        return total
 
     __rmul__ = __mul__
 

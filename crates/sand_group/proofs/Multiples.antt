@@ -1,8 +1,8 @@
--- The n-fold sums of a recurrent pile add up as n does.
-use Rattle.sand_group.proofs.Common.{ℕ, ◌≡◌, ◌+◌, ◌-◌, ◌*◌, ◌/◌, ◌^◌, ◌<◌, ◌≤◌, arith, ℤ, pos, ◌↔◌, ints, Grid, sites, whole, IsEquivalent, PileView, height_of, equivalent_sym, equivalent_add, equivalent_same, IsRecurrent, Represents, IsSum, IsMultiple, IsIdentity}
-use Rattle.std.proofs.lemmas.Nat.{shr-shr}
-use Rattle.std.proofs.Math.Nat.{div-eq_of_lt-le, div-one}
-use Rattle.sand_group.proofs.OperationsSettle.{class_has_one, represents_itself, represents_by, represented_once}
+-- The n-fold sums of a recurrent pile add up as n does, and its digits make n.
+use Rattle.sand_group.proofs.Common.{ℕ, zero, suc, ◌≡◌, ◌+◌, ◌-◌, ◌*◌, ◌^◌, ◌<◌, ◌≤◌, refl, ap, arith, ℤ, pos, ◌+ℤ◌, ◌↔◌, ints, List, length, sum, sum_by-le, All, Grid, IsGrid, sites, whole, IsEquivalent, IsSettled, settled_same, most_grains_on, equivalent_sym, equivalent_add, equivalent_same, equivalent_trans, IsRecurrent, Represents, IsSum, IsMultiple, IsIdentity}
+use Rattle.std.proofs.lemmas.Nat.{mul-le}
+use Rattle.std.proofs.Math.Nat.{mul-le-mul_left}
+use Rattle.sand_group.proofs.OperationsSettle.{class_has_one, represents_itself, represents_by, represented_once, sum_is_settled}
 
 represents_same : (g : Grid) (x y : ℕ → ℤ) (c : ℕ → ℕ) → ((i : ℕ) → i < sites g → x i ≡ y i) → Represents g x c
     → Represents g y c
@@ -29,30 +29,56 @@ multiples_add_up g n m c a b e one two =
     equivalent_same g _ _ _ _ (equivalent_add g _ _ _ _ one.equivalent two.equivalent) (λ i l. omega (arith, ints)) in
     (represents_by g _ _ e (equivalent_sym g _ _ class), represents_by g _ _ e class)
 
-pub sum_is_multiple : (g h : Grid) (n k m : ℕ) (c a b e : ℕ → ℕ) → h ≡ g → n ≡ k + m
-    → IsMultiple g k c a → IsMultiple g m c b → IsSum h a b e → IsMultiple g n c e
-sum_is_multiple g h n k m c a b e same is one two sum =
-    rw is ((multiples_add_up g k m c a b e one two).1 (rw same at sum))
-
 pub has_one_multiple : (g : Grid) (n : ℕ) (c : ℕ → ℕ)
     → (a : ℕ → ℕ) × IsMultiple g n c a × ((b : ℕ → ℕ) → IsMultiple g n c b → (i : ℕ) → i < sites g → b i ≡ a i)
 has_one_multiple g n c =
     let some = class_has_one g (λ i. pos (n * c i)) in
     (some.0, some.1, λ b is. represented_once g (λ i. pos (n * c i)) b some.0 is some.1)
 
--- n / 2 ^ k has the binary digits of n but for the last k
+-- ---- digit by digit
 
-pub first_digit : (g : Grid) (n k : ℕ) (c e : PileView) → 2 ^ k ≤ n → n < 2 * 2 ^ k → e ≡ c
-    → IsRecurrent g (height_of c) → IsMultiple g (n / 2 ^ k) (height_of c) (height_of e)
-first_digit g n k c e low high same recurrent =
-    let one = div-eq_of_lt-le {k = 1} (2 ^ k) {m = n} (omega arith) (omega arith) in
-    rw (one, same) (one_is_itself g (height_of c) recurrent)
+equivalent_multiples : (g : Grid) (a b : ℕ → ℕ) (n : ℕ) → IsEquivalent g (whole a) (whole b)
+    → IsEquivalent g (λ i. pos (n * a i)) (λ i. pos (n * b i))
+equivalent_multiples g a b zero same =
+    equivalent_same g (whole a) (whole a) (λ i. pos (0 * a i)) (λ i. pos (0 * b i))
+    (equivalent_trans g (whole a) (whole b) (whole a) same (equivalent_sym g (whole a) (whole b) same))
+    (λ i l. omega (arith, ints))
+equivalent_multiples g a b (suc n) same =
+    equivalent_same g (λ i. pos (a i) +ℤ pos (n * a i)) (λ i. pos (b i) +ℤ pos (n * b i))
+    (λ i. pos (suc n * a i)) (λ i. pos (suc n * b i))
+    (equivalent_add g (whole a) (whole b) (λ i. pos (n * a i)) (λ i. pos (n * b i)) same
+    (equivalent_multiples g a b n same)) (λ i l. omega (arith, ints))
 
-pub without_last_digit : (g : Grid) (n k : ℕ) (c a : ℕ → ℕ) → ¬ k ≡ 0 → IsMultiple g (n / 2 ^ k) c a
-    → IsMultiple g (n / 2 ^ (k - 1) / 2) c a
-without_last_digit g n k c a more is =
-    let one : k - 1 + 1 ≡ k = omega arith in
-    rw (shr-shr n (k - 1) 1, one) is
+-- n * a + m * b settles to a recurrent pile, if a is recurrent and n is not 0
+pub multiples_settle : (g : Grid) (n m : ℕ) (a b u r : ℕ → ℕ) → 0 < n → IsRecurrent g a
+    → IsSettled g (λ i. n * a i + m * b i) u r → Represents g (λ i. pos (n * a i + m * b i)) r
+multiples_settle g n m a b u r some recurrent done =
+    let more : ℕ → ℕ = λ i. (n - 1) * a i + m * b i in
+    let one : n ≡ n - 1 + 1 = omega arith in
+    let parts : (i : ℕ) → n * a i + m * b i ≡ a i + more i = λ i. omega (arith, ap (λ k. k * a i) one) in
+    represents_same g (λ i. pos (a i + more i)) (λ i. pos (n * a i + m * b i)) r
+    (λ i l. omega (arith, ints, parts i))
+    (sum_is_settled g a more u r recurrent (settled_same g (λ i. n * a i + m * b i) (λ i. a i + more i) u u r r
+    (λ i l. parts i) (λ i l. refl) (λ i l. refl) done))
 
-pub all_digits : (g : Grid) (n k : ℕ) (c a : ℕ → ℕ) → k ≡ 0 → IsMultiple g (n / 2 ^ k) c a → IsMultiple g n c a
-all_digits g n k c a none is = rw (none, div-one n) at is
+-- one digit more, d, after those of q
+pub next_digit : (g h : Grid) (n q b d : ℕ) (c s r : ℕ → ℕ) → h ≡ g → IsMultiple g q c s
+    → Represents h (λ i. pos (b * s i + d * c i)) r → n ≡ q * b + d → IsMultiple g n c r
+next_digit g h n q b d c s r same higher is digits =
+    let class = equivalent_multiples g s (λ i. q * c i) b higher.equivalent in
+    represents_by g (λ i. pos (b * s i + d * c i)) (λ i. pos (n * c i)) r
+    (equivalent_same g (λ i. pos (b * s i)) (λ i. pos (b * (q * c i))) _ _ class
+    (λ i l. omega (arith, ints, ap (λ k. k * c i) digits))) (rw same at is)
+
+-- ---- heights of at most 3 * (n + m)
+
+pub few_copies : (g : Grid) (k : ℕ) → IsGrid g → 3 * k * sites g ≤ most_grains_on g → k < 2 ^ 40
+few_copies g k sides few = omega (
+  arith,
+  few,
+  mul-le-mul_left k (mul-le 1 1 g.width g.height sides.some_width sides.some_height),
+)
+
+pub few_if_low : (g : Grid) (k : ℕ) (heights : List ℕ) → length heights ≡ sites g → All (λ h. h ≤ k) heights
+    → k * sites g ≤ most_grains_on g → sum heights ≤ most_grains_on g
+few_if_low g k heights len low few = omega (arith, few, sum_by-le (λ h. h) k heights low, ap (λ n. n * k) len)

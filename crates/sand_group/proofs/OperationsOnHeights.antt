@@ -71,6 +71,24 @@ together_settles a b both r grid sums is =
     (record { grid = is.grid; len = is.heights_each; odometer = odometer_of r; settled = is.settled })
     (sym grid) (λ i l. sym (sums i))
 
+-- ---- sums of multiples
+
+pub combined_settles : (g : Grid) (a b p q : PileView) (n m : ℕ) (ha hb h : List ℕ) (r : SettledView)
+    → g ≡ a.grid → IsPile a → ha ≡ a.heights → hb ≡ b.heights
+    → ((i : ℕ) → i < length ha → get_or h i 0 ≡ n * get_or ha i 0 + m * get_or hb i 0)
+    → p ≡ record { grid = g; heights = h } → IsSettledRecord p.grid (height_of p) r → q ≡ r.pile
+    → SettlesTo a.grid (λ i. n * height_of a i + m * height_of b i) q
+combined_settles g a b p q n m ha hb h r grid is same_a same_b each made settled same =
+    let here : IsSettledRecord g (λ i. get_or h i 0) r = rw made at settled in
+    rw same (pile_settles g a.grid (λ i. get_or h i 0) (λ i. n * height_of a i + m * height_of b i) r.pile
+    (record { grid = here.grid; len = here.heights_each; odometer = odometer_of r; settled = here.settled }) (sym grid)
+    (λ i l. omega (
+      arith,
+      each i (omega (arith, ap length same_a, is.len, ap sites grid)),
+      ap (λ (xs : List ℕ). n * get_or xs i 0) same_a,
+      ap (λ (xs : List ℕ). m * get_or xs i 0) same_b,
+    )))
+
 -- ---- the recurrent pile of a class
 
 pub equivalent_settles : (p e t c : PileView) (u : ℕ → ℕ) → IsSettled p.grid (height_of p) u (height_of t)
