@@ -1,6 +1,6 @@
 """The sandpile group (Dhar 1990): recurrent piles, added by settling their sum.
 
-A sum settles one pile, of heights up to 6, and an inverse two. A multiple settles as many piles as n has digits, in the greatest base
+A sum settles one pile, of heights up to 6, and an inverse two. A multiple settles a pile for each digit of n, in the greatest base
 that a pile has room for. The space is proportional to the sites. A stack of elements is computed pile by pile.
 """
 

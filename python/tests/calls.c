@@ -256,10 +256,12 @@ static void inverse(void) {
 }
 
 /* Toppling the middle shows that 1 0 1 is 4 times 0 1 0, and toppling both ends that 4 0 4 is 2 times 0 1 0. So 16 times 0 1 0
-   is 2 times 0 1 0, 14 times 0 1 0 is the identity, and so is 7 times 1 0 1, which is 28 times 0 1 0. And 2^64 is 2 modulo 7. */
+   is 2 times 0 1 0, 14 times 0 1 0 is the identity, and so is 7 times 1 0 1, which is 28 times 0 1 0. And 2^64 is 2 modulo 7.
+   For less than (2^40 - 1) / 18 copies, a multiple of 7, one settling is enough. */
 static void multiple(void) {
     const struct { uint64_t n, sum[3]; } rows[] = {
         {0, {3, 2, 3}}, {1, {1, 0, 1}}, {2, {2, 0, 2}}, {3, {3, 0, 3}}, {7, {3, 2, 3}}, {UINT64_MAX, {1, 0, 1}},
+        {61083979319, {2, 2, 2}}, {61083979320, {3, 2, 3}}, {61083979321, {1, 0, 1}},
     };
     for (size_t i = 0; i < sizeof rows / sizeof *rows; i++) {
         uint64_t heights[3] = {1, 0, 1};

@@ -352,7 +352,7 @@ class Group(unittest.TestCase):
                 for n, m in chance.integers(-(2**62), 2**62, (5, 2)).tolist():
                     self.assertEqual(n * a + m * a, (n + m) * a)
                     self.assertEqual(n * (m * a), (n * m) * a)
-                for n in (2**63 - 1, 2**63, 2**64 - 1, 2**64, 10**40, -(10**40)):
+                for n in (2**63 - 1, 2**63, 2**64 - 1, 2**64, 2**126, 10**40, -(10**40)):
                     self.assertEqual(n * a - (n - 1) * a, a)
                 self.assertEqual(0 * a, neutral)
 
