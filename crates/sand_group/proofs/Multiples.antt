@@ -1,7 +1,8 @@
 -- The n-fold sums of a recurrent pile add up as n does, and its digits make n.
-use Rattle.sand_group.proofs.Common.{ℕ, zero, suc, ◌≡◌, ◌+◌, ◌-◌, ◌*◌, ◌^◌, ◌<◌, ◌≤◌, refl, ap, arith, ℤ, pos, ◌+ℤ◌, ◌↔◌, ints, List, length, sum, sum_by-le, All, Grid, IsGrid, sites, whole, IsEquivalent, IsSettled, settled_same, most_grains_on, equivalent_sym, equivalent_add, equivalent_same, equivalent_trans, IsRecurrent, Represents, IsSum, IsMultiple, IsIdentity}
-use Rattle.std.proofs.lemmas.Nat.{mul-le}
-use Rattle.std.proofs.Math.Nat.{mul-le-mul_left}
+use Rattle.sand_group.proofs.Common.{ℕ, zero, suc, ◌≡◌, ◌+◌, ◌-◌, ◌*◌, ◌/◌, ◌^◌, ◌<◌, ◌≤◌, refl, sym, ◌∙◌, ap, arith, ℤ, pos, ◌+ℤ◌, ◌↔◌, ints, List, length, sum, sum_by-le, All, Grid, IsGrid, sites, whole, IsEquivalent, IsSettled, settled_same, most_grains_on, equivalent_sym, equivalent_add, equivalent_same, equivalent_trans, IsRecurrent, Represents, IsSum, IsMultiple, IsIdentity}
+use Rattle.std.proofs.lemmas.Nat.{mul-le, div-add-mod'}
+use Rattle.std.proofs.Math.Nat.{mul-le-mul_left, pow-zero, pow-suc, one-le-pow, mul-div_cancel, div-div-eq-div-mul}
+use Rattle.std.specs.Prelude.{◌%◌}
 use Rattle.sand_group.proofs.OperationsSettle.{class_has_one, represents_itself, represents_by, represented_once, sum_is_settled}
 
 represents_same : (g : Grid) (x y : ℕ → ℤ) (c : ℕ → ℕ) → ((i : ℕ) → i < sites g → x i ≡ y i) → Represents g x c
@@ -69,6 +70,23 @@ next_digit g h n q b d c s r same higher is digits =
     represents_by g (λ i. pos (b * s i + d * c i)) (λ i. pos (n * c i)) r
     (equivalent_same g (λ i. pos (b * s i)) (λ i. pos (b * (q * c i))) _ _ class
     (λ i l. omega (arith, ints, ap (λ k. k * c i) digits))) (rw same at is)
+
+-- ---- powers of the base
+
+pub power_above : (b u : ℕ) → (k : ℕ) × (u ≡ b ^ k) → (k : ℕ) × (u * b ≡ b ^ k)
+power_above b u is = (suc is.0, ap (λ v. v * b) is.1 ∙ sym (pow-suc b is.0))
+
+pub power_below : (b u : ℕ) → 2 ≤ b → (k : ℕ) × (u ≡ b ^ k) → ¬ u ≡ 1
+    → ((k : ℕ) × (u / b ≡ b ^ k)) × (0 < u / b) × (u ≡ u / b * b)
+power_below b u some (zero, is) more = absurd (more (is ∙ pow-zero b))
+power_below b u some (suc k, is) more =
+    let all : u ≡ b ^ k * b = is ∙ pow-suc b k in
+    let less : u / b ≡ b ^ k = ap (λ v. v / b) all ∙ mul-div_cancel (b ^ k) {n = b} (omega arith) in
+    ((k, less), omega (arith, less, one-le-pow k b (omega arith)), all ∙ ap (λ v. v * b) (sym less))
+
+-- n / v has the last digit n / v % b after those of n / u
+pub digit_of : (n b u v : ℕ) → u ≡ v * b → n / v ≡ n / u * b + n / v % b
+digit_of n b u v is = omega (arith, ap (λ w. n / w * b) is, ap (λ q. q * b) (div-div-eq-div-mul n v b), div-add-mod' (n / v) b)
 
 -- ---- heights of at most 3 * (n + m)
 

@@ -1,12 +1,12 @@
 //! The n-fold sum of a recurrent pile, digit by digit.
 //!
-//! Let b be the base, q = n / b and d = n % b. If s is the recurrent pile of q * c, then b * s + d * c is equivalent to n * c, and
-//! it settles to a recurrent pile because s is recurrent. So each digit of n takes one settling, and n = 0 the identity.
+//! Let b be the base. If s is the recurrent pile of q * c, and d < b a digit, then b * s + d * c is equivalent to (b * q + d) * c,
+//! and it settles to a recurrent pile because s is recurrent. So each digit of n, from the first on, takes one settling.
 //!
 //! The base is the greatest for which 6 * b grains a site, more than these heights have, are within the limit of a pile. On 256 by
 //! 256 it is 2,796,202, so no n has more than three digits. On any grid it is at least 3, and no n has more than 41.
 
-ghost use Rattle.std.specs.Prelude.{◌≡◌, ℕ, ◌+◌, ◌*◌, ◌^◌, ◌<◌, ◌≤◌, pos, All, IfOk, IsOkUnless, length, slice_index, alloc_error};
+ghost use Rattle.std.specs.Prelude.{◌≡◌, ℕ, ◌+◌, ◌*◌, ◌/◌, ◌^◌, ◌<◌, ◌≤◌, pos, All, IfOk, IsOkUnless, length, slice_index, alloc_error};
 ghost use Rattle.sand_model.specs.Grid.{sites};
 ghost use Rattle.sand_model.specs.Piles.{height_of, most_grains_on};
 ghost use Rattle.sand_group.specs.Group.{IsMultiple, Represents};
@@ -67,6 +67,22 @@ fn base_on(shape: Shape) -> u64
     shape.grain_limit() / (6 * shape.sites() as u64)
 }
 
+// The greatest power of a base that is at most n.
+fn greatest_power(base: u64, n: u64) -> u64
+    requires base { 2 ≤ base }
+    requires some { 0 < n }
+    ensures power { (k : ℕ) × (result ≡ base ^ k) }
+    ensures some { 0 < result }
+    ensures within { result ≤ n }
+    ensures last { n / result < base }
+{
+    let mut power = 1;
+    'powers: while n / power >= base {
+        power *= base;
+    }
+    power
+}
+
 /// The n-fold sum of a recurrent pile: the identity if n is 0, and the pile itself if n is 1. Fails only if an
 /// allocation fails (Memory).
 pub fn multiple(alloc: Global, c: &Recurrent, n: u64) -> Result<Recurrent, GroupFault>
@@ -80,9 +96,11 @@ pub fn multiple(alloc: Global, c: &Recurrent, n: u64) -> Result<Recurrent, Group
         return identity(alloc, shape);
     }
     let base = base_on(shape);
-    if n < base {
-        return sum_of_multiples(alloc, n, c, 0, c);
+    let mut unit = greatest_power(base, n);
+    let mut sum = sum_of_multiples(alloc, n / unit, c, 0, c)?;
+    'digits: while unit != 1 {
+        unit /= base;
+        sum = sum_of_multiples(alloc, base, &sum, n / unit % base, c)?;
     }
-    let higher = multiple(alloc, c, n / base)?;
-    sum_of_multiples(alloc, base, &higher, n % base, c)
+    Ok(sum)
 }
