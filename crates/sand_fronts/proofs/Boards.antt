@@ -94,6 +94,8 @@ board_with b k word was = record {
   beside = was.beside;
   outside_each = was.outside_each;
   outside = was.outside;
+  lossless_each = was.lossless_each;
+  lossless = was.lossless;
 }
 
 pub sand_with : (g : Grid) (s : Sand) (k : ℕ) (t : Tile) → IsSand g s

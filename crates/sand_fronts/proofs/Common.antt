@@ -27,7 +27,7 @@ pub use Rattle.sand_model.specs.IndexLists.{ListView, Joins}
 pub use Rattle.sand_model.proofs.IndexLists.{joins_if, joins_more, longer, kept_before, waiting_from, joins_from}
 pub use Rattle.sand_fronts.specs.Boards.{IsBoard, IsSand, counts_of, marks_of, AreCounted, AddsSet, tiles_of, free_of, grown, AreCounts, CountsSites, HasSettled, Gets}
 pub use Rattle.sand_fronts.specs.Counting.{spilled_at, over_wave, with_wave, count_at, in_wave}
-pub use Rattle.sand_fronts.specs.Drops.{heights_on, grown_on, AreOutside, AreQuiet, counted_on}
+pub use Rattle.sand_fronts.specs.Drops.{heights_on, grown_on, AreOutside, AreLossless, flag_at, AreQuiet, counted_on}
 pub use Rattle.sand_fronts.specs.Filling.{Tells, IsFilled, IsInner}
 pub use Rattle.sand_fronts.specs.Marking.{MarksView, in_sets, AreMarked, has_mark, AreToppled, AreSites}
 pub use Rattle.sand_fronts.specs.Reading.{IsFirstOfEight, AreOfEight, AddsBetween, TellsEights}

@@ -13,7 +13,7 @@ use Rattle.sand_fronts.specs.Tiling.{tiles, on_tiles}
 use Rattle.sand_fronts.specs.TileLists.{IsClear, waits}
 use Rattle.sand_fronts.specs.Waves.{tile_at, AreBeside, Gains}
 use Rattle.sand_fronts.specs.Counting.{count_at, with_wave}
-use Rattle.sand_fronts.specs.Drops.{heights_on, counted_on, grown_on, AreQuiet, AreOutside}
+use Rattle.sand_fronts.specs.Drops.{heights_on, counted_on, grown_on, AreQuiet, AreOutside, AreLossless, flag_at}
 use Rattle.sand_fronts.specs.Marking.{AreMarked}
 
 -- the parts by tile, for the lemmas
@@ -38,6 +38,8 @@ pub record IsBoard (b : Board) : Type 0 where
   pub beside : AreBeside b.shape b.beside.items
   pub outside_each : length b.outside.items ≡ tiles b.shape
   pub outside : AreOutside b.shape (tile_at b.outside.items)
+  pub lossless_each : length b.lossless.items ≡ tiles b.shape
+  pub lossless : AreLossless (flag_at b.lossless.items) (tile_at b.outside.items)
 
 -- sand on the tiles of a grid, and a list with room for a wave
 pub record IsSand (g : Grid) (s : Sand) : Type 0 where

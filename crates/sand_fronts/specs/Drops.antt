@@ -1,5 +1,5 @@
 -- What a drop topples, by tiles and counts.
-use Rattle.std.specs.Prelude.{ℕ, ◌≡◌, ◌-◌, ◌<◌}
+use Rattle.std.specs.Prelude.{ℕ, Bool, List, true, false, ◌≡◌, ◌-◌, ◌<◌, slice_index_or}
 use Rattle.sand_model.specs.Grid.{Grid, missing}
 use Rattle.sand_tiles.specs.declared.tile.Tile.{Tile}
 use Rattle.sand_tiles.specs.Places.{bit, height, number}
@@ -26,3 +26,11 @@ pub record AreQuiet (τ : ℕ → Tile) : Type 0 where
 -- the numbers on the tiles are the numbers of places around each site outside the grid
 abbrev pub AreOutside : Grid → (ℕ → Tile) → Type 0
 AreOutside g ν = (k p : ℕ) → p < 64 → number (ν k) p ≡ on_tiles g (missing g) k p
+
+-- the flag of a tile by its number, and false past the end
+abbrev pub flag_at : List Bool → ℕ → Bool
+flag_at flags k = slice_index_or flags k false
+
+-- no place of a tile with a flag has a number
+abbrev pub AreLossless : (ℕ → Bool) → (ℕ → Tile) → Type 0
+AreLossless flags ν = (k : ℕ) → flags k ≡ true → (p : ℕ) → p < 64 → number (ν k) p ≡ 0

@@ -19,9 +19,7 @@ use crate::marks::Marks;
 use crate::reading::add_between;
 use crate::sand::Sand;
 use core::mem::replace_with;
-use sand_tiles::{
-    NO_RECENT, Recent, Tile, count_set, eight_times, size, spill, sum_over, times_at,
-};
+use sand_tiles::{NO_RECENT, Recent, Tile, count_set, eight_times, size, spill, times_at};
 use std::alloc::{AllocError, Global};
 
 /// The number of topplings, and of grains that fell into the sink.
@@ -184,7 +182,7 @@ impl Counts {
             let k = sand.list.item(position);
             let set = self.take(&mut sand.tiles, k);
             total.size += size(set);
-            total.lost += sum_over(&board.outside[k], set);
+            total.lost += board.lost_in(k, set);
         }
         total
     }

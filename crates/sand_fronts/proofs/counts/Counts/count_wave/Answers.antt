@@ -1,8 +1,7 @@
 -- A tile without a turn to come in the list has no site in the wave (`listed`). So at the end of the list no tile has
 -- one (`none_in`), and the total is that of the whole wave (`over_none`).
-use Rattle.sand_fronts.proofs.Common.{ℕ, refl, ap, ◌≡◌, ◌*◌, length, arith, sum_below, Tile, bit, number, bit_none, tiles, tile_at, tiles_of, IsClear}
+use Rattle.sand_fronts.proofs.Common.{ℕ, refl, ◌≡◌, ◌*◌, length, arith, number, bit_none, tiles, tile_at, tiles_of, IsClear}
 use Rattle.sand_fronts.proofs.Counted.{counted_more, few_in_sets, few_over_wave, set_less, over_none, rest_in, none_in}
-use Rattle.sand_fronts.proofs.Gained.{tile_read}
 use Rattle.sand_fronts.proofs.counts.Counts.count_wave.Goals as goal
 
 pub overflow_add-total : goal.overflow_add-total
@@ -33,15 +32,13 @@ loop-position-preserved c =
     set_less n k F (λ m. (τ m).wave) (λ m. (σ m).wave) none (omega arith) take.empty take.others in
     let size = rw (← take.set) at (less (λ i p b. b) (λ i p. refl)) in
     let lost = rw (← take.set) at (less (λ i p b. number (ν i) p * b) (λ i p. omega arith)) in
-    let read = ap (λ (x : Tile). sum_below 64 (λ p. number x p * bit c.take-set.result p))
-    (tile_read c.args.board.now.outside.items k _ (omega (arith, c.requires.board.outside_each)) c.index.ensures) in
     record {
       counted = counted_more c.loop-position.invariant.counted take.counted;
       list = c.loop-position.invariant.list;
       listed = rest_in (λ m. IsClear (τ m)) (λ m. IsClear (σ m)) k list position (length list)
           c.loop-position.invariant.listed take.counted.clear (λ p l. rw take.empty (bit_none p)) is;
       size = omega (arith, c.loop-position.invariant.size, c.size.ensures.value);
-      lost = omega (arith, c.loop-position.invariant.lost, c.sum_over.ensures.value);
+      lost = omega (arith, c.loop-position.invariant.lost, c.lost_in.ensures.value);
     }
 
 pub returns : goal.returns
