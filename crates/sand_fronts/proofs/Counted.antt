@@ -15,13 +15,15 @@ one_list (s ∷ ss) (suc m) p low = one_list ss m p low
 -- the latest topplings of tile k and the lists change, and the counts of the tile grow by a set
 pub adds_at : (c : Counts) (ss : Vec (List ℕ) Global) (k word : ℕ) (r : Recent) → k < length c.each.items
     → vec_capacity ss ≡ vec_capacity c.spilled
-    → ((p : ℕ) → p < 64 → spilled_at ss.items k p + times r.planes p ≡ counted (counts_of c k) p + bit word p)
+    → ((p : ℕ) → p < 64 → slice_index c.whole.items k + spilled_at ss.items k p + times r.planes p
+    ≡ counted (counts_of c k) p + bit word p)
     → ((m p : ℕ) → m ≢ k → p < 64 → spilled_at ss.items m p ≡ spilled_at c.spilled.items m p)
     → AddsSet k word c (record c { each = with_item c.each k r; spilled = ss })
 adds_at c ss k word r inside room grows same =
     let other : (m : ℕ) → m ≢ k → get_or (set c.each.items k r) m no_recent ≡ get_or c.each.items m no_recent =
     λ m ne. get_or-set_other c.each.items k m r no_recent ne in
     record {
+      whole_each = refl;
       counts_each = length-set {A = Recent} c.each.items k r;
       room = room;
       marks = refl;
@@ -30,8 +32,22 @@ adds_at c ss k word r inside room grows same =
       others = λ m p ne low. rw (other m ne, same m p ne low) refl;
     }
 
+-- one more toppling of all places of tile k at once
+pub adds_whole : (c : Counts) (k word n : ℕ) → k < length c.whole.items → n ≡ get_or c.whole.items k 0 + 1
+    → ((p : ℕ) → p < 64 → bit word p ≡ 1) → AddsSet k word c (record c { whole = with_item c.whole k n })
+adds_whole c k word n inside more full = record {
+  whole_each = length-set {A = ℕ} c.whole.items k n;
+  counts_each = refl;
+  room = refl;
+  marks = refl;
+  here = λ p low. rw (get_or-set_same c.whole.items k n 0 inside) (omega (arith, more, full p low));
+  others_sound = λ m ne before. before;
+  others = λ m p ne low. rw (get_or-set_other c.whole.items k m n 0 ne) refl;
+}
+
 pub adds_none : {k word : ℕ} {c d e : Counts} → AddsSet k word c d → AddsSet k 0 d e → AddsSet k word c e
 adds_none one none = record {
+  whole_each = none.whole_each ∙ one.whole_each;
   counts_each = none.counts_each ∙ one.counts_each;
   room = none.room ∙ one.room;
   marks = none.marks ∙ one.marks;
@@ -98,6 +114,7 @@ pub counted_more : {ts us vs : List Tile} {c d e : Counts} → AreCounted ts us 
     → AreCounted ts vs c e
 counted_more first second = record {
   tiles_each = second.tiles_each ∙ first.tiles_each;
+  whole_each = second.whole_each ∙ first.whole_each;
   counts_each = second.counts_each ∙ first.counts_each;
   room = second.room ∙ first.room;
   marks_each = second.marks_each ∙ first.marks_each;
@@ -120,6 +137,7 @@ counted_one ts c d k marks inside added sound marks_each marked =
     let t : Tile = record (tile_at ts k) { wave = 0 } in
     record {
       tiles_each = length-set {A = Tile} ts k t;
+      whole_each = added.whole_each;
       counts_each = added.counts_each;
       room = added.room;
       marks_each = marks_each ∙ ap (λ (x : MarksView). length x.sets) added.marks;

@@ -1,5 +1,5 @@
 -- A new pile on tiles.
-use Rattle.sand_fronts.proofs.Common.{ℕ, List, [], length, replicate, get_or, count_by, is_none, ◌≡◌, ◌+◌, ◌*◌, ◌/◌, ◌%◌, ◌<◌, ◌≤◌, refl, sym, ◌∙◌, ap, subst, arith, slice_index, get_or-eq_default, lt-ltb, div-mul-add, mod-mul-add, ext_get_or, get_or-replicate, length-replicate, Grid, sites, places, Tile, had, Count, count_of, counted, IsCount, no_recent, bit_none, Sand, Counts, tile_of, place_of, row_at, column_at, on_tiles, IsInner, spilled_at, count_at, heights_on, counted_on, grown_on, AreQuiet, tiles_of, counts_of, tiled_view, IsTiledView}
+use Rattle.sand_fronts.proofs.Common.{ℕ, List, [], length, replicate, get_or, count_by, is_none, ◌≡◌, ◌+◌, ◌*◌, ◌/◌, ◌%◌, ◌<◌, ◌≤◌, refl, sym, ◌∙◌, ap, subst, arith, slice_index, get_or-eq_default, lt-ltb, div-mul-add, mod-mul-add, ext_get_or, get_or-replicate, length-replicate, Grid, sites, places, Tile, had, Count, counted, times, IsRecent, IsCount, no_recent, bit_none, Sand, Counts, tile_of, place_of, row_at, column_at, on_tiles, IsInner, spilled_at, count_at, heights_on, counted_on, grown_on, AreQuiet, tiles_of, counts_of, tiled_view, IsTiledView}
 use Rattle.std.proofs.lemmas.List.FromFn.{get_or-map-range_with_len, length-map-range_with_len}
 use Rattle.sand_model.specs.Grid.{missing, north, west, east, south}
 use Rattle.sand_model.proofs.Neighbours.{missing_is}
@@ -9,21 +9,24 @@ use Rattle.sand_fronts.specs.TiledPiles.{by_site}
 use Rattle.sand_fronts.proofs.Filled.{entry_each, inner_site}
 use Rattle.sand_fronts.proofs.OnTiles.{place_below, at_on, on_site, on_below, on_sum}
 
-none_recent : (cs : List Recent) (n m : ℕ) → cs ≡ replicate n no_recent → get_or cs m no_recent ≡ no_recent
-none_recent cs n m all = entry_each no_recent (λ k r. r ≡ no_recent) cs n
-    (ap length all ∙ length-replicate {A = Recent} n no_recent)
-    (λ k less. ap (λ (xs : List Recent). get_or xs k no_recent) all
-    ∙ get_or-replicate {A = Recent} n k no_recent no_recent less)
-    (λ k past. refl) m
+none_at : {A : Type 0} (d : A) (xs : List A) (n m : ℕ) → xs ≡ replicate n d → get_or xs m d ≡ d
+none_at {A = A} d xs n m all = entry_each d (λ k x. x ≡ d) xs n (ap length all ∙ length-replicate {A = A} n d)
+    (λ k less. ap (λ (ys : List A). get_or ys k d) all ∙ get_or-replicate {A = A} n k d d less) (λ k past. refl) m
 
 -- so nothing is counted
-pub counts_new : (cs : List Recent) (ss : List (List ℕ)) (n m : ℕ) → cs ≡ replicate n no_recent → ss ≡ []
-    → IsCount (count_at cs ss m) × ((p : ℕ) → p < 64 → counted (count_at cs ss m) p ≡ 0)
-counts_new cs ss n m all none = subst
-    (λ r. IsCount (count_of r (get_or ss m [])) × ((p : ℕ) → p < 64 → counted (count_of r (get_or ss m [])) p ≡ 0))
-    (sym (none_recent cs n m all)) (
+pub counts_new : (ws : List ℕ) (cs : List Recent) (ss : List (List ℕ)) (n m : ℕ) → ws ≡ replicate n 0
+    → cs ≡ replicate n no_recent → ss ≡ []
+    → IsCount (count_at ws cs ss m) × ((p : ℕ) → p < 64 → counted (count_at ws cs ss m) p ≡ 0)
+counts_new ws cs ss n m zeros all none = subst
+    (λ r. IsRecent r × ((p : ℕ) → p < 64 → slice_index ws m + spilled_at ss m p + times r.planes p ≡ 0))
+    (sym (none_at no_recent cs n m all)) (
       record { bound = omega arith; each = λ p low. omega (arith, bit_none p) },
-      λ p low. omega (arith, bit_none p, ap (λ (xs : List (List ℕ)). spilled_at xs m p) none),
+      λ p low. omega (
+        arith,
+        bit_none p,
+        none_at 0 ws n m zeros,
+        ap (λ (xs : List (List ℕ)). spilled_at xs m p) none,
+      ),
     )
 
 -- tiles where each site has had just its height are at rest

@@ -24,7 +24,7 @@ abbrev pub tiles_of : Sand → ℕ → Tile
 tiles_of s = tile_at s.tiles.items
 
 abbrev pub counts_of : Counts → ℕ → Count
-counts_of c = count_at c.each.items c.spilled.items
+counts_of c = count_at c.whole.items c.each.items c.spilled.items
 
 abbrev pub marks_of : Counts → ℕ → ℕ
 marks_of c = slice_index c.marks.sets
@@ -47,6 +47,7 @@ pub record IsSand (g : Grid) (s : Sand) : Type 0 where
   pub room : sites g + tiles g + 8 ≤ s.list.room
 
 pub record AreCounts (g : Grid) (c : Counts) : Type 0 where
+  pub whole_each : length c.whole.items ≡ tiles g
   pub len : length c.each.items ≡ tiles g
   pub room : vec_capacity c.spilled ≡ tiles g
   pub marks_each : length c.marks.sets ≡ tiles g
@@ -61,6 +62,7 @@ pub record Gets (free : ℕ → ℕ) (most : ℕ) (gain : ℕ → ℕ → ℕ) (
 -- the places that leave the wave are counted and marked, and nothing else changes
 pub record AreCounted (ts us : List Tile) (c d : Counts) : Type 0 where
   pub tiles_each : length us ≡ length ts
+  pub whole_each : length d.whole.items ≡ length c.whole.items
   pub counts_each : length d.each.items ≡ length c.each.items
   pub room : vec_capacity d.spilled ≡ vec_capacity c.spilled
   pub marks_each : length d.marks.sets ≡ length c.marks.sets
@@ -75,6 +77,7 @@ pub record AreCounted (ts us : List Tile) (c d : Counts) : Type 0 where
 
 -- a toppling of each place of a set in tile k is counted
 pub record AddsSet (k set : ℕ) (c d : Counts) : Type 0 where
+  pub whole_each : length d.whole.items ≡ length c.whole.items
   pub counts_each : length d.each.items ≡ length c.each.items
   pub room : vec_capacity d.spilled ≡ vec_capacity c.spilled
   pub marks : d.marks ≡ c.marks

@@ -4,6 +4,10 @@
 //! in the list of the wave. The sites counted so far and those still in the tiles are together the sites of the wave
 //! (`AreCounted`: `each`; `size`, `lost`), and in the end the tiles have none.
 //!
+//! A tile whose 64 sites all topple in a wave is counted in one number. On large grids that is most tiles, and the bit
+//! planes of all tiles would not stay in the nearest caches. A count is this number, that of the planes, and what was
+//! spilled from them.
+//!
 //! How many grains a site loses when it topples, 0 to 4, is also kept on tiles: in `outside`, in place of heights.
 
 ghost use Rattle.std.specs.Prelude.{◌≡◌, ◌≢◌, ℕ, ◌+◌, ◌^◌, ◌<◌, ◌≤◌, length, vec_capacity, slice_index, IfOk};
@@ -34,7 +38,9 @@ pub(crate) const NOTHING: Total = Total { size: 0, lost: 0 };
 /// How often each place of each tile has toppled, and which places have in this drop.
 #[derive(Drop)]
 pub(crate) struct Counts {
-    /// The latest topplings of each tile.
+    /// How often all places of each tile have toppled in one wave.
+    pub(crate) whole: Vec<u64>,
+    /// The latest other topplings of each tile.
     pub(crate) each: Vec<Recent>,
     /// All earlier ones, of the tiles up to the last that was spilled. There is room for all tiles.
     pub(crate) spilled: Vec<[u64; 64]>,
@@ -63,16 +69,19 @@ impl Counts {
     /// No topplings on n tiles. Fails only if an allocation fails.
     pub(crate) fn new(alloc: Global, n: usize) -> Result<Counts, AllocError>
         requires { n ≤ 2097152 }
-        ensures len { IfOk result (λ c. (length c.each.items ≡ n) × (length c.marks.sets ≡ n)) }
+        ensures len { IfOk result
+            (λ c. (length c.whole.items ≡ n) × (length c.each.items ≡ n) × (length c.marks.sets ≡ n)) }
         ensures room { IfOk result (λ c. vec_capacity c.spilled ≡ n) }
         ensures sound { IfOk result (λ c. (m : ℕ) → IsCount (counts_of c m)) }
         ensures none { IfOk result (λ c. (m p : ℕ) → p < 64 → counted (counts_of c m) p ≡ 0) }
         ensures unmarked { IfOk result (λ c. (m : ℕ) → marks_of c m ≡ 0) }
     {
+        let whole = vec![in alloc; 0u64; n]?;
         let each = vec![in alloc; NO_RECENT; n]?;
         let spilled = Vec::with_capacity(alloc, n)?;
         let marks = Marks::new(alloc, n)?;
         Ok(Counts {
+            whole,
             each,
             spilled,
             marks,
@@ -82,12 +91,12 @@ impl Counts {
     /// How often a place of a tile has toppled.
     #[inline(always)]
     pub(crate) fn times(&self, k: usize, place: usize) -> u64
-        requires tile { k < length self.now.each.items }
+        requires tile { (k < length self.now.each.items) × (k < length self.now.whole.items) }
         requires place { place < 64 }
         requires bound { counted (counts_of self.now k) place < 2 ^ 63 }
         ensures { result ≡ counted (counts_of self.now k) place }
     {
-        let latest = times_at(&self.each[k], place);
+        let latest = self.whole[k] + times_at(&self.each[k], place);
         if k < self.spilled.len() {
             self.spilled[k][place] + latest
         } else {
@@ -98,12 +107,13 @@ impl Counts {
     /// How often each of eight places has toppled, from one on.
     #[inline(always)]
     pub(crate) fn eight_times(&self, k: usize, place: usize) -> [u64; 8]
-        requires tile { k < length self.now.each.items }
+        requires tile { (k < length self.now.each.items) × (k < length self.now.whole.items) }
         requires place { place < 57 }
         requires bound { (p : ℕ) → p < 64 → counted (counts_of self.now k) p < 2 ^ 63 }
         ensures { (c : ℕ) → c < 8 → slice_index result c ≡ counted (counts_of self.now k) (place + c) }
     {
         let mut times = eight_times(&self.each[k], place);
+        add_between(&mut times, 0, 8, &[self.whole[k]; 8], 0);
         if k < self.spilled.len() {
             add_between(&mut times, 0, 8, &self.spilled[k], place);
         }
@@ -126,13 +136,17 @@ impl Counts {
     // Counts one toppling of each place of a set in a tile.
     #[inline(always)]
     fn add(&mut self, k: usize, set: u64)
-        requires tile { k < length self.old.each.items }
+        requires tile { (k < length self.old.each.items) × (k < length self.old.whole.items) }
         requires room { k < vec_capacity self.old.spilled }
         requires sound { IsCount (counts_of self.old k) }
         requires bound { (p : ℕ) → p < 64 → counted (counts_of self.old k) p < 2 ^ 62 }
         ensures sound { IsCount (counts_of self.new k) }
         ensures added { AddsSet k set self.old self.new }
     {
+        if set == u64::MAX {
+            self.whole[k] += 1;
+            return;
+        }
         let is_full = count_set(&mut self.each[k], set);
         if is_full {
             self.spill(k);
@@ -143,7 +157,8 @@ impl Counts {
     #[inline(always)]
     fn take(&mut self, tiles: &mut Vec<Tile>, k: usize) -> u64
         requires tile { k < length tiles.old.items }
-        requires len { (length self.old.each.items ≡ length tiles.old.items)
+        requires len { (length self.old.whole.items ≡ length tiles.old.items)
+            × (length self.old.each.items ≡ length tiles.old.items)
             × (vec_capacity self.old.spilled ≡ length tiles.old.items)
             × (length self.old.marks.sets ≡ length tiles.old.items) }
         requires fits { length tiles.old.items ≤ 2097152 }

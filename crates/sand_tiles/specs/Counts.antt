@@ -10,16 +10,18 @@ times c p = bit c.ones p + 2 * bit c.twos p + 4 * bit c.fours p + 8 * bit c.eigh
     + 32 * bit c.thirty_twos p + 64 * bit c.sixty_fours p + 128 * bit c.next p
     + 256 * bit c.upper p + 512 * bit c.tops p
 
--- the topplings of a tile: the latest, and all earlier ones
+-- the topplings of a tile: of all places at once, and of the others the latest, and all earlier ones
 pub record Count : Type 0 where
+  pub whole : ℕ
   pub recent : Recent
   pub spilled : List ℕ
 
+-- none of all places at once
 abbrev pub count_of : Recent → List ℕ → Count
-count_of r s = record { recent = r; spilled = s }
+count_of r s = record { whole = 0; recent = r; spilled = s }
 
 abbrev pub counted : Count → ℕ → ℕ
-counted c p = slice_index c.spilled p + times c.recent.planes p
+counted c p = c.whole + slice_index c.spilled p + times c.recent.planes p
 
 -- the planes have room for one more set
 pub record IsRecent (r : Recent) : Type 0 where

@@ -102,6 +102,7 @@ waves-preserved c =
             (arith, c.topple_wave.ensures.sand.room, ap (λ (l : ListView). l.room) c.count_wave-wave.ensures.list);
       };
       counts = record {
+        whole_each = counted.whole_each ∙ c.waves.invariant.counts.whole_each;
         len = counted.counts_each ∙ c.waves.invariant.counts.len;
         room = counted.room ∙ c.waves.invariant.counts.room;
         marks_each = counted.marks_each ∙ c.waves.invariant.counts.marks_each;

@@ -30,4 +30,4 @@ loop-place-preserved c =
     }
 
 pub returns-clause-kept : goal.returns-clause-kept
-returns-clause-kept c p low = c.loop-place.invariant.moved p (omega (arith, c.loop-place-test.false))
+returns-clause-kept c p low = omega (arith, c.loop-place.invariant.moved p (omega (arith, c.loop-place-test.false)))

@@ -21,6 +21,7 @@ invariant_of-self c =
     let is = c.topple_grain-waves.ensures in let each = is.settled.counts in
     pile_after is.shape is.board is.all_open is.settled
     (record {
+      whole_each = each.whole_each;
       len = each.len;
       room = each.room;
       marks_each = c.avalanche_of-avalanche.ensures.len ∙ each.marks_each;

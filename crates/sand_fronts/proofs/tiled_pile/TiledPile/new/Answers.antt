@@ -20,9 +20,10 @@ invariant_of-result c =
       quiet = new_quiet c.args.shape (λ j. get_or c.args.heights.now j 0) (tile_at c.in_ok-tiles.tiles.items)
           c.requires.low c.in_ok-tiles.ensures.heights;
       counts = record {
-        len = counts.len.0 ∙ n;
+        whole_each = counts.len.0 ∙ n;
+        len = counts.len.1 ∙ n;
         room = counts.room ∙ n;
-        marks_each = counts.len.1 ∙ n;
+        marks_each = counts.len.2 ∙ n;
         sound = counts.sound;
       };
       at_sites = counts_no_site c.in_ok-board.board.shape (counts_of c.in_ok-counts.counts) counts.none;

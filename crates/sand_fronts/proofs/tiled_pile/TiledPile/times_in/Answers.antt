@@ -12,7 +12,10 @@ read c = (site_seen c.self.inside.board.shape c.self.inside.sand c.self.inside.c
 
 pub times-requires : goal.times-requires
 times-requires c = record {
-  tile = omega (arith, c.find_at-tile.ensures.inside.0, c.self.invariant.counts.len);
+  tile = (
+    omega (arith, c.find_at-tile.ensures.inside.0, c.self.invariant.counts.len),
+    omega (arith, c.find_at-tile.ensures.inside.0, c.self.invariant.counts.whole_each),
+  );
   place = c.find_at-tile.ensures.inside.1;
   bound = omega (arith, read (goal.at.times-requires c).After-find_at-tile, c.requires.bound);
 }
