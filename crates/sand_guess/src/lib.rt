@@ -9,9 +9,10 @@
 //!
 //! 1. `levels`: halve the pile again and again, until it is small. The smallest is guessed from a constant density.
 //! 2. `solver`: solve Lu = s - density in floating point, directly: modes along x, elimination along y.
-//! 3. `repair`: correct the rounded counts, by toppling unstable sites and taking back needless topplings (`tiles`).
-//!    Here all numbers are exact.
-//! 4. `density`: local means of the resulting heights predict the density for the pile of twice the size.
+//! 3. `repair`: correct the rounded counts, by toppling unstable sites (`tiles`) and taking back needless topplings
+//!    (`fires`). Here all numbers are exact.
+//! 4. `density`: local means of the resulting heights predict the density for the pile of twice the size, as far as such
+//!    predictions came true at this one.
 //!
 //! The identity of the group of recurrent piles is guessed in the same way, from the empty pile (`claim`). `forecast`
 //! finds, without a solve, whether a pile is so high that a guess is faster than toppling. `sweeps` topples small piles.
@@ -21,6 +22,7 @@
 
 mod claim;
 mod density;
+mod fires;
 mod forecast;
 mod levels;
 mod modes;

@@ -28,9 +28,33 @@ pub(crate) struct Place {
     pub(crate) west_end: u16,
     pub(crate) east_end: u16,
     pub(crate) tile: Tile,
-    /// The sites that have toppled, and of these the ones that the last fire did not burn.
+    /// Whether fires reach it. If not, all of it is taken to have burnt before. And whether it is on the list of tiles
+    /// that take part in them.
+    pub(crate) is_inside: bool,
+    pub(crate) is_listed: bool,
+    /// The sites that have toppled, and of these the ones that burn, and the ones that the last fire did not burn.
     marks: u16x8,
+    pub(crate) burnt: u16x8,
     pub(crate) unburnt: u16x8,
+    /// How often topplings can be taken back before marks change.
+    slack: i64,
+    /// Whether it rests: no site burns until the fire comes in from another tile. And how often topplings of all its sites
+    /// were taken back since they were last counted.
+    pub(crate) is_resting: bool,
+    whole: i64,
+}
+
+// The most times that topplings are taken back before they are counted.
+const MOST_SLACK: i64 = 0x7fff;
+
+// The least of the numbers above `least`, less it.
+fn least_above(numbers: &[i64], least: i64) -> i64 {
+    let mut all = MOST_SLACK;
+    for number in numbers {
+        let more = number.wrapping_sub(least);
+        all = if more > 0 { all.min(more) } else { all };
+    }
+    all
 }
 
 // The columns in which this bit of a number less `base` is set.
@@ -100,23 +124,72 @@ impl Place {
     pub(crate) fn mark(&mut self, counts: &[i64], least: i64) {
         let others = self.sites_with(counts, least.wrapping_add(1), 63);
         self.marks = self.tile.sites & !others;
+        self.slack = MOST_SLACK;
+        for row in 0..ROWS {
+            let numbers = run(counts, self.first_in(row), self.columns);
+            self.slack = self.slack.min(least_above(numbers, least));
+        }
     }
 
-    /// The places that topple first in a fire: sinks, and sites that are not marked.
+    /// The places that topple first in a fire: sinks, and sites that are not marked. If fires do not reach the tile, all
+    /// sites.
     #[inline(always)]
     pub(crate) fn kindling(&self) -> u16x8 {
-        self.sinks | self.tile.sites & !self.marks
+        let others = if self.is_inside {
+            !self.marks
+        } else {
+            u16x8::splat(u16::MAX)
+        };
+        self.sinks | self.tile.sites & others
     }
 
-    /// Takes back a toppling of each marked site that did not burn, and returns whether there are any.
-    pub(crate) fn end_fire(&mut self, burnt: u16x8, counts: &mut [i64], least: i64) -> bool {
-        self.unburnt = self.marks & !burnt;
-        let is_left = is_any(self.unburnt);
-        if is_left {
-            self.add_where(counts, self.unburnt, -1);
-            self.mark(counts, least);
+    /// Begins a fire: what topples first pays for it.
+    pub(crate) fn begin_fire(&mut self) {
+        let kindling = self.kindling();
+        self.burnt = u16x8::splat(0);
+        if self.is_inside {
+            self.tile.four &= !kindling;
         }
-        is_left
+    }
+
+    /// Ends a fire. A toppling of each marked site that did not burn is taken back: returns these, and whether marks may
+    /// change before the next.
+    pub(crate) fn end_fire(&mut self) -> (u16x8, bool) {
+        if !self.is_inside {
+            return (u16x8::splat(0), false);
+        }
+        self.unburnt = self.marks & !self.burnt;
+        self.slack = self.slack.wrapping_sub(i64::from(is_any(self.unburnt)));
+        (self.unburnt, self.slack <= 0)
+    }
+
+    /// Rests, if no site burns by itself and none burnt, and marks stay as they are for so many fires.
+    pub(crate) fn rest_for(&mut self, fires: i64) -> bool {
+        let is_whole = !is_any(self.kindling() | self.unburnt ^ self.tile.sites);
+        self.is_resting = is_whole && self.is_inside && self.slack > fires;
+        self.is_resting
+    }
+
+    /// Ends its rest of this many fires.
+    pub(crate) fn wake(&mut self, fires: i64) {
+        if self.is_resting {
+            self.is_resting = false;
+            self.whole = self.whole.wrapping_add(fires);
+            self.slack = self.slack.wrapping_sub(fires);
+        }
+    }
+
+    /// Subtracts what was taken back at all sites alike.
+    pub(crate) fn count_whole(&mut self, counts: &mut [i64]) {
+        if self.whole != 0 {
+            self.add_where(counts, self.tile.sites, self.whole.wrapping_neg());
+            self.whole = 0;
+        }
+    }
+
+    /// Whether fires must reach the tile.
+    pub(crate) fn is_open(&self) -> bool {
+        is_any(self.unburnt) || self.tile.is_below_none()
     }
 
     /// Topples what may topple, once each, and returns it. Writes by site the turn at which it does, from the one after
@@ -198,8 +271,14 @@ fn place_of(shape: Shape, x: usize, y: usize) -> Place {
             due: none,
             sites,
         },
+        is_inside: true,
+        is_listed: false,
         marks: none,
+        burnt: none,
         unburnt: none,
+        slack: 0,
+        is_resting: false,
+        whole: 0,
     }
 }
 

@@ -68,6 +68,21 @@ impl Tile {
         !is_any(before) & is_any(new)
     }
 
+    /// Takes a grain from each place of a set, and returns whether a site has less than none then.
+    pub(crate) fn lose(&mut self, set: u16x8) -> bool {
+        let borrowed = !self.low & set;
+        let twos = !self.high & borrowed;
+        self.low ^= set;
+        self.high ^= borrowed;
+        self.four ^= twos;
+        self.is_below_none()
+    }
+
+    /// Whether a site of a stable tile has less than no grains.
+    pub(crate) fn is_below_none(&self) -> bool {
+        is_any(self.sites & !self.four)
+    }
+
     /// Gives a grain to each neighbour in the tile of each place of a front. The flood pays with what it gets.
     #[inline(always)]
     pub(crate) fn give(&mut self, front: u16x8, flood: u16x8) {
