@@ -192,8 +192,26 @@ def directions_of(directions: ArrayLike) -> NDArray[np.uint8]:
     check_sides(array.shape)
     wrong = (array < 0) | (array > 3)
     if wrong.any():
-        raise Fault(_NOT_TREE, f"directions must be from 0 to 3, but the one in {_first(array, wrong)}")
+        by_name = "; parents are passed by name, parents=.."
+        raise Fault(_NOT_TREE, f"directions must be from 0 to 3, but the one in {_first(array, wrong)}{by_name}")
     return np.array(array, dtype=np.uint8, order="C")
+
+
+def parents_of(parents: ArrayLike) -> NDArray[Any]:
+    """An array of site numbers, or of the number after the last one's, for the sink."""
+    array = _integers(_listed(parents), "parents")
+    if array.ndim != 2:
+        raise ShapeError(f"the parents of a tree must have shape (height, width), but this array has shape {array.shape}")
+    check_sides(array.shape)
+    check_parents(array, (array < 0) | (array > array.size))
+    return array.astype(np.int64)
+
+
+def check_parents(parents: NDArray[Any], wrong: NDArray[np.bool_]) -> None:
+    """Raises a fault for parents of which some are wrong."""
+    if wrong.any():
+        must = f"a parent must be a neighbour, or {parents.size} for the sink beyond the edge"
+        raise Fault(_NOT_TREE, f"{must}, but the one in {_first(parents, wrong)}")
 
 
 def sites_of(sites: ArrayLike, count: int) -> NDArray[np.int64]:

@@ -20,7 +20,7 @@ from ._stacks import each_class, each_pile
 from .burning import burned, burned_stack
 from .faults import Fault, ShapeError
 from .settling import settle
-from .trees import Tree
+from .trees import Tree, directions_to, heights_of_tree
 
 _COPY = "a copy of the heights"
 
@@ -213,8 +213,16 @@ class Recurrent(HasPile):
         with room_for("a tree"):
             return Tree(directions.astype(np.int64), self._cylinder)
 
+    @overload
     @classmethod
-    def from_tree(cls, directions: ArrayLike | Tree, cylinder: bool | None = None) -> Recurrent:
+    def from_tree(cls, directions: ArrayLike | Tree, cylinder: bool | None = None) -> Recurrent: ...
+
+    @overload
+    @classmethod
+    def from_tree(cls, *, cylinder: bool | None = None, parents: ArrayLike) -> Recurrent: ...
+
+    @classmethod
+    def from_tree(cls, directions: Any = None, cylinder: bool | None = None, *, parents: Any = None) -> Recurrent:
         """The element of a spanning tree: `tree` of the element is the tree again.
 
         Parameters
@@ -224,16 +232,20 @@ class Recurrent(HasPile):
             An edge that leads out of the grid leads to the sink.
         cylinder : bool, optional
             Whether the first and the last column are neighbours. By default as in `directions` if that is a tree, else False.
+        parents : array_like of int
+            Instead of `directions`, to which neighbour the edge of each site leads, as in `Tree.parents`: by its number, row *
+            width + column, or height * width for the sink. Parents do not tell two edges to the sink apart, such as those of a
+            corner: then it is the first one, in the order of the directions.
 
         Raises
         ------
         Fault
-            Side (1), Narrow (24), NotTree (28) if a direction is not from 0 to 3 or some edges form a cycle, Memory (4), or
-            Shapes (9) if the tree has the other edge.
+            Side (1), Narrow (24), NotTree (28) if a direction is not from 0 to 3, a parent is no neighbour, or some edges form a
+            cycle, Memory (4), or Shapes (9) if the tree has the other edge.
         ValueError
-            If `directions` is not two-dimensional; this is also a `TypeError`.
+            If `directions` or `parents` is not two-dimensional; this is also a `TypeError`.
         TypeError
-            If the directions are not integers.
+            If the directions or the parents are not integers, or both are given, or none.
 
         See Also
         --------
@@ -245,12 +257,18 @@ class Recurrent(HasPile):
         >>> import sandpile
         >>> sandpile.Recurrent.from_tree([[2, 2, 3]])
         Recurrent([[0, 1, 3]])
+        >>> sandpile.Recurrent.from_tree(parents=[[1, 2, 3]])
+        Recurrent([[0, 1, 1]])
         """
+        if parents is not None:
+            if directions is not None:
+                raise TypeError("a tree is given by directions or by parents, not by both")
+            edge = edge_of(set(), cylinder)
+            return cls._known(heights_of_tree(directions_to(parents, edge), edge, "parents"), edge)
         edges = {directions.cylinder} if isinstance(directions, Tree) else set()
         ways = directions_of(directions.directions if isinstance(directions, Tree) else directions)
-        edge, heights = edge_of(edges, cylinder), new_array(ways.shape, np.int64, "the heights")
-        call("of_tree", ways.shape, edge, ways, heights)
-        return cls._known(heights, edge)
+        edge = edge_of(edges, cylinder)
+        return cls._known(heights_of_tree(ways, edge), edge)
 
     def _copied(self) -> Heights:
         with room_for(_COPY):

@@ -7,21 +7,26 @@ sink.
 
 from __future__ import annotations
 
+from collections.abc import Iterator
 from dataclasses import dataclass
-from typing import Any
+from typing import Any, SupportsIndex
 
 import numpy as np
-from numpy.typing import NDArray
+from numpy.typing import ArrayLike, NDArray
 
-from ._arrays import new_array
-from ._grid import COLUMNS, ROWS, beside
+from ._arrays import check_parents, directions_of, new_array, parents_of, site_at
+from ._grid import COLUMNS, DIRECTIONS, ROWS, beside
+from ._library import call
+from ._memory import room_for
 from ._png import Pictured
 from ._results import Result
+from .faults import Fault
 
 # So many sites find their parents at once, in little memory.
 _SITES_AT_ONCE = 1 << 20
 # The colours of 3 grains and 0 grains.
 _PATH, _WALL = 3, 0
+_NOT_TREE = 28
 
 
 @dataclass(frozen=True, eq=False, repr=False)
@@ -38,6 +43,16 @@ class Tree(Result, Pictured):
     parents : numpy.ndarray
         To which site the edge of each site leads, by number, ``row * width + column``, or ``height * width`` for the sink;
         shape (height, width), int64.
+    depth : numpy.ndarray
+        How many edges lead from each site to the sink, from 1 on; shape (height, width), int64. It is the ``burn(a).time`` of the
+        element `a` of this tree.
+
+    Examples
+    --------
+    >>> import sandpile
+    >>> tree = sandpile.Recurrent([[0, 1, 3]]).tree()
+    >>> tree.directions, tree.parents, tree.depth, tree.path(0)
+    (array([[2, 2, 3]]), array([[1, 2, 3]]), array([[3, 2, 1]]), array([0, 1, 2]))
     """
 
     directions: NDArray[np.int64]
@@ -47,10 +62,59 @@ class Tree(Result, Pictured):
     def parents(self) -> NDArray[np.int64]:
         ways = self.directions.ravel()
         ends = new_array(ways.size, np.int64, "the parents of a tree")
-        for begin in range(0, ways.size, _SITES_AT_ONCE):
-            some = np.arange(begin, min(begin + _SITES_AT_ONCE, ways.size))
+        for some in _parts(ways.size):
             ends[some[0] : some[-1] + 1] = beside(some, ways[some], self.directions.shape, self.cylinder)
         return ends.reshape(self.directions.shape)
+
+    @property
+    def depth(self) -> NDArray[np.int64]:
+        heights = heights_of_tree(directions_of(self.directions), self.cylinder)
+        depths = new_array(heights.shape, np.uint32, "the depths of a tree")
+        call("burn_times", heights.shape, self.cylinder, heights, depths)
+        with room_for("the depths of a tree"):
+            return depths.astype(np.int64)
+
+    def path(
+        self, site: SupportsIndex | None = None, *, row: SupportsIndex | None = None, column: SupportsIndex | None = None
+    ) -> NDArray[np.int64]:
+        """The sites on the way from a site to the sink, this one first.
+
+        Parameters
+        ----------
+        site : int
+            The number of the site, row * width + column.
+        row, column : int
+            Instead of `site`, its row and its column, each from 0.
+
+        Returns
+        -------
+        numpy.ndarray
+            Their numbers, shape (n,), int64, where n is the `depth` of the site. The last edge leads to the sink, which is no site.
+
+        Raises
+        ------
+        Fault
+            NoSite (25) if the site is outside the grid, or NotTree (28) if the edges from it form a cycle.
+        TypeError
+            If the site, or its row and its column, are not integers.
+
+        Examples
+        --------
+        >>> import numpy, sandpile
+        >>> tree = sandpile.Recurrent([[2, 1, 2], [1, 0, 1], [2, 1, 2]]).tree()
+        >>> numpy.divmod(tree.path(row=1, column=2), 3)
+        (array([1, 0]), array([2, 2]))
+        """
+        (height, width), found = self.directions.shape, [site_at(site, row, column, self.directions.shape, "the path asked for")]
+        line, at = divmod(found[0], width)
+        while len(found) <= height * width:
+            way = self.directions.item(line, at)
+            line, at = line + ROWS.item(way), at + COLUMNS.item(way)
+            at = at % width if self.cylinder else at
+            if not (0 <= line < height and 0 <= at < width):
+                return np.array(found)
+            found.append(line * width + at)
+        raise Fault(_NOT_TREE, f"from site {found[0]}, no path leads to the sink")
 
     def _shown(self) -> Any:
         height, width = self.directions.shape
@@ -62,3 +126,44 @@ class Tree(Result, Pictured):
         if self.cylinder:  # an edge around it has an end on both sides
             shown[:, 0] = shown[:, -1] = shown[:, [0, -1]].max(axis=1)
         return shown
+
+
+def heights_of_tree(directions: NDArray[np.uint8], cylinder: bool, what: str = "directions") -> NDArray[np.int64]:
+    """The heights of the recurrent pile of a tree, whose directions are from 0 to 3. A fault says what is no tree."""
+    heights = new_array(directions.shape, np.int64, "the heights")
+    try:
+        call("of_tree", directions.shape, cylinder, directions, heights)
+    except Fault as fault:
+        if fault.number != _NOT_TREE:
+            raise
+        row, column = _place_on_a_cycle(directions, cylinder)
+        said = f"the {what} are not a spanning tree: from row {row}, column {column} they lead back there"
+        raise Fault(_NOT_TREE, said) from None
+    return heights
+
+
+def _place_on_a_cycle(directions: NDArray[np.uint8], cylinder: bool) -> tuple[int, int]:
+    """The row and the column of a site to which its own edges lead back."""
+    sites = directions.size
+    ends = np.append(Tree(directions.astype(np.int64), cylinder).parents, sites)  # from the sink to the sink
+    for _ in range(sites.bit_length()):  # each time, twice as many edges
+        ends = ends[ends]
+    return divmod(int(ends[ends < sites][0]), directions.shape[1])
+
+
+def directions_to(parents: ArrayLike, cylinder: bool) -> NDArray[np.uint8]:
+    """The direction of the edge from each site to its parent. If several lead to the sink, it is the first one."""
+    ends = parents_of(parents)
+    ways = np.full(ends.size, len(DIRECTIONS), np.uint8)
+    for some in _parts(ends.size):
+        part = slice(some[0], some[-1] + 1)
+        for direction in reversed(DIRECTIONS):
+            ways[part][beside(some, direction, ends.shape, cylinder) == ends.ravel()[part]] = direction
+    check_parents(ends, (ways == len(DIRECTIONS)).reshape(ends.shape))
+    return ways.reshape(ends.shape)
+
+
+def _parts(sites: int) -> Iterator[NDArray[np.int64]]:
+    """The numbers of sites, in parts whose neighbours take little memory."""
+    for begin in range(0, sites, _SITES_AT_ONCE):
+        yield np.arange(begin, min(begin + _SITES_AT_ONCE, sites))

@@ -87,6 +87,81 @@ class Bijection(unittest.TestCase):
                 self.assertEqual(tree.parents[site], height * width if at is None else at[0] * width + at[1])
 
 
+    def test_depths(self):
+        depths = sandpile.Recurrent([[2, 1, 2], [1, 0, 1], [2, 1, 2]]).tree().depth
+        self.assertEqual(depths.tolist(), [[1, 2, 1], [2, 3, 2], [1, 2, 1]])
+        for height, width, cylinder in SHAPES:
+            a = sandpile.random_recurrent((height, width), 3, cylinder)
+            self.assertTrue(same(a.tree().depth, sandpile.burn(a).time))
+        self.assertRaisesRegex(sandpile.Fault, "NotTree", lambda: sandpile.Tree(np.array([[2, 1]]), False).depth)
+
+    def test_paths(self):
+        for height, width, cylinder in SHAPES[:5]:
+            tree = sandpile.random_recurrent((height, width), 3, cylinder).tree()
+            for site, depth in enumerate(tree.depth.ravel()):
+                path = tree.path(site)
+                self.assertEqual([path[0], len(path), path.dtype], [site, depth, np.int64])
+                self.assertEqual(tree.parents.ravel()[path].tolist(), [*path[1:], height * width])
+                self.assertTrue(same(tree.path(row=site // width, column=site % width), path))
+
+    def test_no_path(self):
+        tree = sandpile.Tree(np.array([[2, 1, 2]]), False)
+        self.assertEqual(tree.path(2).tolist(), [2])
+        self.assertRaisesRegex(sandpile.Fault, "^fault 28 NotTree: from site 1, no path leads to the sink", tree.path, 1)
+        self.assertRaisesRegex(sandpile.Fault, "NoSite: the path asked for is at site 3, but the grid has only", tree.path, 3)
+        self.assertRaisesRegex(TypeError, "site must be an integer", tree.path, 1.5)
+
+
+class Parents(unittest.TestCase):
+    def test_the_way_back(self):
+        for height, width, cylinder in SHAPES:
+            a = sandpile.random_recurrent((height, width), 3, cylinder)
+            parents = a.tree().parents
+            again = sandpile.Recurrent.from_tree(parents=parents, cylinder=cylinder)
+            self.assertTrue(same(again.tree().parents, parents))
+            self.assertTrue(same(again.tree().depth, a.tree().depth))
+            if cylinder and height > 1:  # each site has at most one edge to the sink
+                self.assertEqual(again, a)
+
+    def test_the_first_edge_to_the_sink(self):
+        self.assertEqual(sandpile.Recurrent.from_tree(parents=[[1]]).tree().directions.tolist(), [[0]])
+        tree = sandpile.Recurrent.from_tree(parents=[[4, 4], [4, 4]]).tree()
+        self.assertEqual(tree.directions.tolist(), [[0, 0], [1, 2]])
+
+    def test_each_integer_type(self):
+        a = sandpile.random_recurrent((5, 6), 1, cylinder=True)
+        for name in "bBhHiIlLqQ":
+            parents = np.asfortranarray(a.tree().parents.astype(name))
+            self.assertEqual(sandpile.Recurrent.from_tree(parents=parents, cylinder=True), a)
+        self.assertEqual(sandpile.Recurrent.from_tree(parents=a.tree().parents.tolist(), cylinder=True), a)
+
+    def test_what_is_none(self):
+        from_tree = sandpile.Recurrent.from_tree
+        for parents, said in (
+            ([[3, 2, 0]], "a parent must be a neighbour, or 3 for the sink beyond the edge, but the one in row 0, column 2 is 0"),
+            ([[3], [0], [0]], "must be a neighbour, .* row 2, column 0 is 0"),
+            ([[3, 2, 4]], "must be a neighbour, .* row 0, column 2 is 4"),
+            ([[3, -1, 3]], "must be a neighbour, .* row 0, column 1 is -1"),
+            ([[3, 2**64, 3]], "must be a neighbour, .* row 0, column 1 is 18446744073709551616"),
+            ([[3, 1, 3]], "must be a neighbour, .* row 0, column 1 is 1"),
+            ([[1, 2, 1]], "the parents are not a spanning tree: from row 0, column [12] they lead back there"),
+        ):
+            with self.subTest(parents=parents):
+                self.assertRaisesRegex(sandpile.Fault, f"^fault 28 NotTree: .*{said}", from_tree, parents=parents)
+        inner = np.full((3, 3), 9)
+        self.assertRaisesRegex(sandpile.Fault, "or 9 for the sink beyond the edge, .* row 1, column 1 is 9", from_tree, parents=inner)
+        for parents, cylinder, number in (([[2, 2]], True, 24), (np.zeros((0, 3), int), None, 1), (np.zeros((1, 8193), int), None, 1)):
+            with self.assertRaises(sandpile.Fault) as caught:
+                from_tree(parents=parents, cylinder=cylinder)
+            self.assertEqual(caught.exception.number, number)
+        for kind in (ValueError, TypeError):
+            self.assertRaisesRegex(kind, r"parents of a tree must have shape \(height, width\)", from_tree, parents=[1, 2])
+        for parents in ([[1.0]], "1", {}, np.ma.masked_array([[1]]), sandpile.identity((2, 2)).tree()):
+            self.assertRaises(TypeError, from_tree, parents=parents)
+        self.assertRaisesRegex(TypeError, "by directions or by parents, not by both", from_tree, [[0]], parents=[[1]])
+        self.assertRaises(TypeError, from_tree)
+
+
 class Trees(unittest.TestCase):
     def test_what_is_none(self):
         from_tree = sandpile.Recurrent.from_tree
@@ -95,6 +170,8 @@ class Trees(unittest.TestCase):
             ([[0], [-1]], "directions must be from 0 to 3, but the one in row 1, column 0 is -1"),
             ([[0, 2**64]], "directions must be from 0 to 3, but the one in row 0, column 1 is 18446744073709551616"),
             ([[2, 1]], "the directions are not a spanning tree"),
+            ([[0, 2, 1]], "the directions are not a spanning tree: from row 0, column [12] they lead back there"),
+            ([[0, 4]], "directions must be from 0 to 3, .*; parents are passed by name"),
         ):
             self.assertRaisesRegex(sandpile.Fault, f"^fault 28 NotTree: {said}", from_tree, directions)
         for directions, cylinder, number in (
