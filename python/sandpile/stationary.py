@@ -12,8 +12,9 @@ from typing import Any, Sequence, SupportsIndex
 
 import numpy as np
 
-from ._arrays import checked_edge, index_of, listed, new_array, shape_of
+from ._arrays import Heights, checked_edge, count_of, index_of, listed, new_array, shape_of
 from ._library import call_at, check_memory
+from ._stacks import enumerate_piles
 from .group import Recurrent
 
 
@@ -21,8 +22,10 @@ def random_recurrent(
     shape: Sequence[SupportsIndex],
     seed: SupportsIndex | Sequence[int] | np.random.SeedSequence | None = None,
     cylinder: bool = False,
+    count: SupportsIndex | None = None,
 ) -> Recurrent:
-    """A random recurrent pile, each as likely as any other. A run from it is stationary [1]_, and needs no burn-in.
+    """A random recurrent pile, each as likely as any other, or a stack of them. A run from it is stationary [1]_, and needs no
+    burn-in.
 
     Parameters
     ----------
@@ -34,15 +37,19 @@ def random_recurrent(
         is a new one.
     cylinder : bool
         Whether the first and the last column are neighbours.
+    count : int, optional
+        How many piles, as a stack; without it, a single one. Pile k of the stack is that of stream k of the seed, from 0 on:
+        ``random_recurrent(shape, numpy.random.SeedSequence(seed, spawn_key=(k,)))``. If the seed is an integer, `replicas` starts
+        stream k from it. A longer stack begins with the piles of a shorter one.
 
     Raises
     ------
     Fault
-        Side (1), Narrow (24) or Memory (4).
+        Side (1), Narrow (24), Memory (4), or Plan (15) if `count` is negative.
     ValueError
         If an integer of `seed` is negative.
     TypeError
-        If `shape` is not two integers, `seed` is none of those, or `cylinder` is not True or False.
+        If `shape` is not two integers, `seed` is none of those, `cylinder` is not True or False, or `count` is not an integer.
 
     See Also
     --------
@@ -71,20 +78,42 @@ def random_recurrent(
     >>> run = sandpile.Drive(start, seed=7)
     >>> sandpile.burn(start).is_recurrent, start == sandpile.random_recurrent((64, 64), seed=7)
     (True, True)
+    >>> stack = sandpile.random_recurrent((64, 64), seed=7, count=100)
+    >>> stack.pile.shape, sandpile.burn(stack).is_recurrent.all()
+    ((100, 64, 64), True)
     """
-    return drawn(shape_of(shape), _sequence_of(seed), checked_edge(cylinder))
+    sides, sequence, edge = shape_of(shape), _sequence_of(seed), checked_edge(cylinder)
+    if count is None:
+        return drawn(sides, sequence, edge)
+    piles = count_of(count, "count")
+    check_memory("random", *sides)
+    stack = new_array((piles, *sides), np.int64, f"a stack of {piles:,} piles")
+    for stream, heights in enumerate_piles(stack, edge):
+        _draw(heights, _stream_of(sequence, stream), edge)
+    return Recurrent._known(stack, edge)
+
+
+def _stream_of(seed: np.random.SeedSequence, stream: int) -> np.random.SeedSequence:
+    """A child of a sequence, which `spawn` would not return again."""
+    return np.random.SeedSequence(seed.entropy, spawn_key=(*seed.spawn_key, stream), pool_size=seed.pool_size)
 
 
 def drawn(shape: tuple[int, int], seed: np.random.SeedSequence, edge: bool) -> Recurrent:
     """The pile of a seed."""
     check_memory("random", *shape)
     heights = new_array(shape, np.int64, "the heights")
+    _draw(heights, seed, edge)
+    return Recurrent._known(heights, edge)
+
+
+def _draw(heights: Heights, seed: np.random.SeedSequence, edge: bool) -> None:
+    """Writes the pile of a seed."""
+    height, width = heights.shape
     # NumPy takes twice as long to generate two numbers of 64 bits, the same ones, and to tell the address itself.
     low, high, stream_low, stream_high = listed(seed.generate_state(4))
     words = low | high << 32, stream_low | stream_high << 32
     address = ctypes.addressof(ctypes.c_int64.from_buffer(heights.data))
-    call_at("sandpile_random", shape[1], shape[0], edge, *words, address, heights.size)
-    return Recurrent._known(heights, edge)
+    call_at("sandpile_random", width, height, edge, *words, address, heights.size)
 
 
 def _sequence_of(seed: Any) -> np.random.SeedSequence:

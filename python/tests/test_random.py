@@ -7,7 +7,7 @@ from unittest import mock
 import numpy as np
 import sandpile
 from sandpile import stationary
-from tools import words_of
+from tools import same, words_of
 
 PI = np.pi
 # The probability of each height far from the edge (Priezzhev 1994; Kenyon and Wilson 2015).
@@ -157,6 +157,36 @@ class Seeds(unittest.TestCase):
         self.assertEqual(len({sandpile.random_recurrent((9, 8), seed) for seed in kinds}), 1)
         others = [None, None, 8, [7, 1], 2**200, *np.random.SeedSequence(7).spawn(2)]
         self.assertEqual(len({sandpile.random_recurrent((9, 8), seed) for seed in [7, *others]}), 8)
+
+    def test_a_stack_is_made_of_streams(self):
+        for shape, cylinder in (((9, 8), False), ((1, 1), False), ((5, 7), True)):
+            stack = sandpile.random_recurrent(shape, 7, cylinder, count=5)
+            self.assertEqual((stack.pile.shape, stack.cylinder), ((5, *shape), cylinder))
+            for stream, pile in enumerate(stack.pile):
+                seed = np.random.SeedSequence(7, spawn_key=(stream,))
+                self.assertTrue(same(pile, sandpile.random_recurrent(shape, seed, cylinder).pile))
+        starts = list(sandpile.replicas((9, 8), 7, range(5), 0, each=lambda run: run.pile))
+        self.assertTrue(same(np.array(starts), sandpile.random_recurrent((9, 8), 7, count=np.int8(5)).pile))
+
+    def test_a_stack_of_each_seed(self):
+        for seed in ([7, 1], np.random.SeedSequence(7), np.random.SeedSequence(7).spawn(2)[1], np.random.SeedSequence(7, pool_size=8)):
+            stack = sandpile.random_recurrent((9, 8), seed, count=3)
+            self.assertEqual(stack, sandpile.random_recurrent((9, 8), seed, count=3))
+            self.assertTrue(same(stack.pile[:2], sandpile.random_recurrent((9, 8), seed, count=2).pile))
+            children = (seed if isinstance(seed, np.random.SeedSequence) else np.random.SeedSequence(seed)).spawn(3)
+            self.assertEqual([sandpile.random_recurrent((9, 8), child) for child in children], [*map(sandpile.Recurrent, stack.pile)])
+        self.assertNotEqual(*(sandpile.random_recurrent((9, 8), count=3) for _ in range(2)))
+
+    def test_how_many(self):
+        self.assertEqual(sandpile.random_recurrent((9, 8), 7, count=0).pile.shape, (0, 9, 8))
+        self.assertTrue(sandpile.burn(sandpile.random_recurrent((200, 300), 7, count=3)).is_recurrent.all())
+        self.assertRaisesRegex(sandpile.Fault, "Plan: count is -1, but must be from 0", sandpile.random_recurrent, (9, 8), 7, count=-1)
+        self.assertRaisesRegex(TypeError, "count must be an integer", sandpile.random_recurrent, (9, 8), 7, count=1.5)
+        with self.assertRaisesRegex(sandpile.Fault, "Memory: .* a stack of 10,000,000,000,000 piles: 5,760,000.0 GB needed"):
+            sandpile.random_recurrent((9, 8), 7, count=10**13)
+        for count in (0, 2):
+            self.assertRaisesRegex(sandpile.Fault, "24 Narrow", sandpile.random_recurrent, (9, 2), 7, True, count)
+            self.assertRaisesRegex(sandpile.Fault, "1 Side", sandpile.random_recurrent, (9, 0), 7, count=count)
 
     def test_what_is_none(self):
         for seed in (-1, [7, -1]):
