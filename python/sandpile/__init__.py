@@ -21,6 +21,7 @@ run in parallel.
 `random_recurrent`                      a random recurrent pile, each as likely as any other
 `Recurrent.tree`                        the spanning tree of a recurrent pile
 `lab`                                   a seeded run on many threads, by the program
+`toppling_matrix`                       the toppling matrix of a grid, for SciPy
 `grain_limit`                           how many grains a grid takes
 `show`                                  a picture
 `animate`                               avalanches, one after another
@@ -41,6 +42,7 @@ from .driving import AVALANCHE, Drive
 from .faults import Fault
 from .group import Recurrent, identity, recurrent
 from .laboratory import EPOCH, Run, lab
+from .matrix import toppling_matrix
 from .pictures import show
 from .playing import Page, play
 from .replicating import REPLICA, Replicas, replicas
@@ -56,6 +58,5 @@ __version__ = VERSION
 __all__ = [
     "AVALANCHE", "EPOCH", "REPLICA", "WAVE", "Burned", "Drive", "Fault", "Page", "Part", "Record", "Recurrent", "Replicas", "Run",
     "Settled", "SharedPile", "Tree", "animate", "burn", "grain_limit", "identity", "is_superstable", "lab", "play",
-    "random_recurrent",
-    "recurrent", "replicas", "settle", "show", "superstable",
+    "random_recurrent", "recurrent", "replicas", "settle", "show", "superstable", "toppling_matrix",
 ]

@@ -140,6 +140,11 @@ def most_grains(height: int, width: int) -> int:
     return most.value
 
 
+def check_grid(height: int, width: int, cylinder: bool) -> None:
+    """Raises a fault for a grid that there is not, such as a cylinder that is too narrow."""
+    call_on("grain_limit", width, height, cylinder, ctypes.byref(ctypes.c_uint64()))
+
+
 def most_in_words(height: int, width: int) -> str:
     """The grain limit of a grid, as faults name it, with what makes it lower than that of others."""
     most = most_grains(height, width)

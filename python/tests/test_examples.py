@@ -12,7 +12,7 @@ import sandpile
 
 CITING = (
     "settle", "burn", "recurrent", "superstable", "identity", "random_recurrent", "Recurrent", "Drive", "SharedPile", "lab",
-    "Drive.drop", "Drive.waves", "Recurrent.tree",
+    "Drive.drop", "Drive.waves", "Recurrent.tree", "toppling_matrix",
 )
 RELATED = (*CITING, "Recurrent.from_tree", "is_superstable", "replicas", "show", "animate")
 

@@ -73,6 +73,12 @@ assert_type(a.act(3).act(s.pile.argmax()).act(row=1, column=2), sandpile.Recurre
 assert_type(a.tree(), sandpile.Tree)
 assert_type(a.tree().directions, Counts)
 assert_type(a.tree().parents, Counts)
+assert_type(a.tree().depth, Counts)
+assert_type(a.tree().path(3), Counts)
+assert_type(a.tree().path(row=1, column=np.int64(2)), Counts)
+assert_type(sandpile.Recurrent.from_tree(parents=a.tree().parents, cylinder=True), sandpile.Recurrent)
+assert_type(sandpile.random_recurrent((6, 5), 7, count=np.int64(3)), sandpile.Recurrent)
+assert_type(sandpile.toppling_matrix(a.shape, cylinder=True), Any)  # SciPy declares no types
 assert_type(sandpile.Recurrent.from_tree(a.tree()), sandpile.Recurrent)
 assert_type(sandpile.Recurrent.from_tree([[0, 3]], cylinder=False), sandpile.Recurrent)
 assert_type(a == a, bool)
@@ -201,6 +207,10 @@ run.pile = p
 a.act("0")
 a.tree().directions = p
 sandpile.Recurrent.from_tree(None)
+sandpile.Recurrent.from_tree([[0]], parents=[[1]])
+a.tree().path(1, 2)
+sandpile.toppling_matrix(3)
+sandpile.random_recurrent((6, 5), 7, count=1.5)
 a + 1
 a * 1.5
 a / 2
