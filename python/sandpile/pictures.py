@@ -23,7 +23,7 @@ _PIXELS_AN_INCH = 128
 # For a colour bar, in pixels: its width, its distance from the picture and from the ends of the figure, what the figure is
 # wider with it, and the least height. Then the size of its text, in points.
 _BAR, _GAP, _ROOM, _LEAST_HEIGHT, _TEXT = 16, 14, 120, 128, 8
-# With a title, in pixels: its room, and the least width of the figure.
+# With a title, in pixels: the room above the picture, and the least width of the figure.
 _TITLE, _LEAST_WIDTH = 32, 384
 
 
@@ -98,7 +98,7 @@ def show(pile: ArrayLike | Pictured, ax: Axes | None = None, click: bool = False
         pixels, (colours, least, greatest) = (values, _colours_of(values)) if side == 1 else _means_of(values, side)
     has_bar, bar = len(colours) == LEVELS, None
     if ax is None:
-        ax, bar = new_axes(pixels.shape, has_bar, _TITLE if click else 0)
+        ax, bar = new_axes(pixels.shape, has_bar)
     colormap = ListedColormap(colours / 255).with_extremes(bad=RED)
     bottom, right = (side * length - 0.5 for length in pixels.shape)  # in sites
     image = ax.imshow(pixels, cmap=colormap, vmin=least, vmax=greatest, interpolation="nearest", extent=(-0.5, right, bottom, -0.5))
@@ -150,24 +150,43 @@ def _means_of(values: Any, side: int) -> tuple[Any, tuple[NDArray[np.uint8], flo
     return pixels, (graded(), 0, MOST) if is_plain(values) else _colours_of(pixels)
 
 
-def new_axes(shape: tuple[int, ...], has_bar: bool = False, title: int = 0) -> tuple[Axes, Axes | None]:
-    """A new figure with axes for a picture of this shape, in which each site has the same whole number of pixels, with axes for
-    its colour bar, and with this much room for a title."""
+def new_axes(shape: tuple[int, ...], has_bar: bool = False) -> tuple[Axes, Axes | None]:
+    """A new figure with axes for a picture of this shape, in which each site has the same whole number of pixels, and with axes for
+    its colour bar. It has no room for a title before there is one."""
+    from matplotlib.text import Text
+
     scale = max(1, PIXELS // max(*shape, 1))
     height, width = shape[0] * scale, shape[1] * scale
     high, wide = (max(height, _LEAST_HEIGHT), width + _ROOM) if has_bar else (height, width)
-    left = 0
-    if title:
-        high, wide = high + title, max(wide, _LEAST_WIDTH)
-        left = (wide - width) // 2
     figure = _new_figure(wide, high)
-    ax = figure.add_axes((_fraction(left, wide), 0, _fraction(width, wide), _fraction(height, high)))
+    ax = figure.add_axes((0, 0, _fraction(width, wide), _fraction(height, high)))
+    for title in ax.get_children():
+        if isinstance(title, Text):
+            title.add_callback(_make_room)
     if not has_bar:
         return ax, None
     bar = figure.add_axes(((width + _GAP) / wide, _GAP / high, _BAR / wide, 1 - 2 * _GAP / high))
     bar.tick_params(labelsize=_TEXT)
     figure.sca(ax)
     return ax, bar
+
+
+def _make_room(title: Any) -> None:
+    """Makes a figure higher and wider, if need be, so that the title of its picture is seen. Pixels of the picture stay."""
+    figure = title.figure
+    dpi, places = figure.dpi, [(ax, ax.get_position(original=True)) for ax in figure.axes]
+    wide, high = (round(inches * dpi) for inches in figure.get_size_inches())
+    lacking = _TITLE - round((1 - places[0][1].y1) * high)
+    if not title.get_text() or lacking <= 0:
+        return
+    new_wide, new_high = max(wide, _LEAST_WIDTH), high + lacking
+    figure.set_size_inches(new_wide / dpi, new_high / dpi)
+    for ax, was in places:
+        left, bottom = round(was.x0 * wide) + (new_wide - wide) // 2, round(was.y0 * high)
+        width, height = round(was.width * wide), round(was.height * high)
+        ax.set_position((
+            _fraction(left, new_wide), _fraction(bottom, new_high), _fraction(width, new_wide), _fraction(height, new_high),
+        ))
 
 
 def _fraction(side: int, whole: int) -> float:

@@ -49,6 +49,48 @@ def drawn(pile):
     return axes, pixels
 
 
+@needs_module("matplotlib")
+class Titles(unittest.TestCase):
+    def test_a_title_is_above_the_picture(self):
+        import matplotlib.pyplot as plt
+
+        for pile in (*piles(), np.arange(12).reshape(3, 4), np.arange(600).reshape(200, 3), np.arange(2400).reshape(3, 800)):
+            before = drawn(pile)[1]
+            for loc in ("left", "center", "right"):
+                axes = sandpile.show(pile)
+                for title in ("A", "Another"):
+                    axes.set_title(title, loc=loc)
+                axes.figure.canvas.draw()
+                pixels = np.asarray(axes.figure.canvas.buffer_rgba())[..., :3].astype(int)
+                plt.close(axes.figure)
+                with self.subTest(shape=np.shape(pile), loc=loc):
+                    high, left = pixels.shape[0] - before.shape[0], (pixels.shape[1] - before.shape[1]) // 2
+                    room = 32 if len(axes.figure.axes) == 1 else high  # beside a colour bar there may be room already
+                    self.assertEqual((high, pixels.shape[1]), (room, max(before.shape[1], 384)))
+                    rows = round(axes.get_position().height * len(pixels))
+                    self.assertTrue(np.array_equal(pixels[-rows:, left : left + before.shape[1]], before[-rows:]))
+                    self.assertTrue((pixels[:32] < 128).all(axis=2).any())
+
+    def test_by_pyplot(self):
+        import matplotlib.pyplot as plt
+
+        for make in (lambda: sandpile.show(np.zeros((64, 64), int)), lambda: sandpile.animate(sandpile.Drive([[0]]), 1)):
+            kept = make()
+            plt.title("A title")
+            self.assertEqual((plt.gcf().get_size_inches() * 128).round().tolist(), [512, 544])
+            plt.gcf().canvas.draw()
+            plt.close()
+            del kept
+
+    def test_without_a_title_nothing_changes(self):
+        import matplotlib.pyplot as plt
+
+        axes = sandpile.show(np.zeros((64, 64), int))
+        axes.set_title("")
+        self.assertEqual((axes.figure.get_size_inches() * 128).round().tolist(), [512, 512])
+        plt.close(axes.figure)
+
+
 class InNotebooks(unittest.TestCase):
     @needs_module("matplotlib")
     def test_each_site_is_a_square(self):
