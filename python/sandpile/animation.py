@@ -14,6 +14,7 @@ from ._arrays import Heights, count_of
 from ._png import COLOURS, RED, means, rgb, sites_of_pixel
 from .driving import Drive
 from .pictures import check_matplotlib, new_axes
+from .progress import Bar
 
 if TYPE_CHECKING:
     from matplotlib.animation import FuncAnimation
@@ -31,7 +32,7 @@ _NONE = np.zeros(1, bool)
 
 def animate(
     run: Drive, drops: SupportsIndex = 100, toppling: bool = False, interval: float = 100, ax: Axes | None = None,
-    waves: bool = False,
+    waves: bool = False, progress: bool = False,
 ) -> FuncAnimation:
     """Draws the next avalanches of a run, those at random sites. The run itself stays as it is.
 
@@ -53,6 +54,9 @@ def animate(
         Where to draw; by default a new figure of about 512 pixels.
     waves : bool
         Whether to draw each avalanche wave by wave. The sites of a wave are red before it.
+    progress : bool
+        Whether to show on standard error, as `Drive.drop` does, how many drops are drawn. Matplotlib takes about a thirtieth of a
+        second for each frame.
 
     Returns
     -------
@@ -110,11 +114,24 @@ def animate(
         image.set_data(pixels(heights))
         return (image,)
 
-    # Each time that the animation begins, another copy makes the drops.
+    def begun() -> Iterator[Heights]:
+        """The frames. Each time that the animation begins, another copy makes the drops."""
+        own = copy.copy(start)
+        return _shown(frames(own, number), own, number) if progress else frames(own, number)
+
     return FuncAnimation(
-        figure, draw, lambda: frames(copy.copy(start), number), lambda: (image,),
+        figure, draw, begun, lambda: (image,),
         interval=interval, save_count=sys.maxsize if toppling or waves else number, cache_frame_data=False,
     )
+
+
+def _shown(frames: Iterator[Heights], run: Drive, drops: int) -> Iterator[Heights]:
+    """The same frames. Shows how many drops they have."""
+    before = run.drops
+    with Bar(drops) as bar:
+        for frame in frames:
+            bar.show(run.drops - before)
+            yield frame
 
 
 def _drops(run: Drive, drops: int) -> Generator[Heights, None, None]:

@@ -1,8 +1,13 @@
 """Animations: the frames of avalanches, and the files that are saved."""
 
+import contextlib
 import copy
+import io
+import itertools
 import os
+import sys
 import unittest
+from unittest import mock
 
 import numpy as np
 import sandpile
@@ -112,6 +117,15 @@ class Animate(unittest.TestCase):
             self.assertEqual((picture.n_frames, picture.size), (6, (512, 256)))
         self.assertIn("<img", animation.to_jshtml())
         plt.close()
+
+    def test_progress(self):
+        run = sandpile.Drive(np.full((9, 12), 3), seed=3)
+        for how in ({}, {"toppling": True}, {"waves": True}):
+            with mock.patch.dict(sys.modules, {"tqdm.auto": None}), contextlib.redirect_stderr(io.StringIO()) as said:
+                shown = frames(run, 7, progress=True, **how)
+            self.assertRegex(said.getvalue(), r"^\r1 of 7 drops.*\r7 of 7 drops\n$")
+            for one, other in itertools.zip_longest(shown, frames(run, 7, **how)):
+                self.assertTrue(np.array_equal(one, other))
 
     def test_given_axes(self):
         import matplotlib.pyplot as plt
