@@ -36,6 +36,9 @@ Examples
 (3, True)
 """
 
+from typing import TYPE_CHECKING
+
+from . import _hints
 from .animation import animate
 from .burning import Burned, burn
 from .driving import AVALANCHE, Drive
@@ -60,3 +63,9 @@ __all__ = [
     "Settled", "SharedPile", "Tree", "animate", "burn", "grain_limit", "identity", "is_superstable", "lab", "play",
     "random_recurrent", "recurrent", "replicas", "settle", "show", "superstable", "toppling_matrix",
 ]
+
+if not TYPE_CHECKING:  # a type checker would take any name for one that there is
+
+    def __getattr__(name: str) -> object:
+        hint = _hints.OF_MODULE.get(name)
+        raise AttributeError(f"module {__name__!r} has no attribute {name!r}" + (f": {hint}" if hint else ""))

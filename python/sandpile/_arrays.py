@@ -13,6 +13,7 @@ from numpy.typing import ArrayLike, NDArray
 from . import _memory
 from ._library import most_in_words
 from ._limits import check_sides
+from ._places import warn_of_pair
 from ._png import Pictured
 from .faults import Fault, ShapeError
 
@@ -73,7 +74,8 @@ def _integers(values: ArrayLike, what: str) -> NDArray[Any]:
         objects = np.asarray(values, object)
         if {*map(type, objects.flat)} == {int}:
             return objects
-    raise TypeError(f"{what} must be integers of at most 64 bits, but this array has type {array.dtype}")
+    how = "; add dtype=int where it is made" if array.dtype.kind == "f" else ""
+    raise TypeError(f"{what} must be integers of at most 64 bits, but this array has type {array.dtype}{how}")
 
 
 def _array_of(values: ArrayLike, what: str) -> NDArray[Any]:
@@ -142,7 +144,7 @@ def heights_of(pile: ArrayLike, may_be_stack: bool = False, may_be_negative: boo
     array = _integers(pile, "heights")
     if array.ndim != 2 and not (may_be_stack and array.ndim == 3):
         stack = ", and a stack of piles (k, height, width)" if may_be_stack else ""
-        raise ShapeError(f"a pile must have shape (height, width){stack}, but this array has shape {array.shape}")
+        raise ShapeError(f"a pile must have shape (height, width){stack}, but this array has shape {array.shape}{_meant_by(array)}")
     check_sides(array.shape[-2:])
     if not array.size:
         return np.empty(array.shape, np.int64)
@@ -154,6 +156,15 @@ def heights_of(pile: ArrayLike, may_be_stack: bool = False, may_be_negative: boo
         _check_bits(array)
     _memory.check(array.size * np.dtype(np.int64).itemsize, _COPY)
     return np.array(array, dtype=np.int64, order="C")
+
+
+def _meant_by(array: NDArray[Any]) -> str:
+    """How to get a pile of a shape, if that was passed in its place."""
+    if array.ndim > 1 or array.size != 2 - (array.ndim == 0):
+        return ""
+    height, width = np.broadcast_to(array, 2).tolist()
+    shape = f"({height}, {width})"
+    return f"; of the shape {shape}, numpy.zeros({shape}, int) is an empty pile, and random_recurrent({shape}) a random one"
 
 
 def _check_bits(array: NDArray[Any]) -> None:
@@ -239,7 +250,9 @@ def _sites_at(
 ) -> NDArray[np.int64]:
     height, width = shape
     if sites is not None and rows is None and columns is None:
-        return sites_of(sites, height * width)
+        numbers = sites_of(sites, height * width)
+        warn_of_pair(sites, shape)
+        return numbers
     if sites is not None or rows is None or columns is None:
         raise TypeError("sites are either numbers, or rows and columns")
     rows, columns = np.broadcast_arrays(_integers(rows, "rows"), _integers(columns, "columns"))
@@ -304,7 +317,16 @@ def seed_of(seed: SupportsIndex | np.random.SeedSequence | None, bits: int = 64,
     try:
         return count_of(seed, "seed", 2**bits - 1, fault)
     except TypeError:
-        raise TypeError(f"seed must be an integer, a numpy.random.SeedSequence or None, not {seed!r}") from None
+        kinds, of_many = "an integer, a numpy.random.SeedSequence or None", ""
+        if isinstance(seed, (list, tuple)):
+            of_many = "; the seed of a run is one integer, in C as well, so make it of these: numpy.random.SeedSequence(..)"
+        raise TypeError(f"seed must be {kinds}, not {seed!r}{of_many}{of_generator(seed)}") from None
+
+
+def of_generator(seed: Any) -> str:
+    """What to pass in place of a generator of NumPy, old or new."""
+    is_one = hasattr(seed, "integers") or hasattr(seed, "randint")
+    return "; a generator changes with each number it draws, so draw one: seed=rng.integers(2**32)" if is_one else ""
 
 
 def new_array(shape: int | tuple[int, ...], kind: Any, what: str) -> NDArray[Any]:

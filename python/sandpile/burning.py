@@ -14,6 +14,7 @@ import numpy as np
 from numpy.typing import ArrayLike, NDArray
 
 from ._arrays import Heights, heights_and_edge, new_array
+from ._hints import OF_BURNED, Hinted
 from ._library import call
 from ._memory import room_for
 from ._png import Pictured, ma
@@ -22,7 +23,7 @@ from ._stacks import enumerate_piles, naming
 
 
 @dataclass(frozen=True, eq=False, repr=False)
-class Burned(Result, Pictured):
+class Burned(Result, Pictured, Hinted):
     """The result of burning a pile, or each pile of a stack.
 
     Attributes
@@ -39,6 +40,8 @@ class Burned(Result, Pictured):
         The step in which each site burns, from 1 on: in each step, all sites that can burn do; the same shape, int64. Sites
         of the forbidden set have -1. Computed when it is first read.
     """
+
+    _HINTS = OF_BURNED
 
     is_recurrent: Any
     order: NDArray[np.int64]

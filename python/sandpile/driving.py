@@ -16,10 +16,11 @@ from typing import Any, Callable, ContextManager, Iterator, Literal, NamedTuple,
 import numpy as np
 from numpy.typing import ArrayLike, NDArray
 
-from . import _saves, recording, waves as _waves
+from . import _hints, _saves, recording, waves as _waves
 from ._arrays import HasPile, Heights, count_of, heights_and_edge, new_array, seed_of, site_at, sites_at
 from ._handles import DriveHandle
 from ._library import call, call_at, most_grains, most_in_words
+from ._places import by_name
 from .faults import Fault
 from .progress import Bar
 from .waves import WaveList, most_waves
@@ -124,7 +125,7 @@ def _listed(sites: NDArray[np.int64]) -> _Sites:
     return sites.size, lambda begin, _: at + begin * sites.itemsize
 
 
-class Drive(HasPile):
+class Drive(HasPile, _hints.Hinted):
     """A pile on which grains drop one by one, at random or given sites. Each settles before the next. A run can be passed
     as a pile.
 
@@ -185,6 +186,8 @@ class Drive(HasPile):
     (True, True)
     """
 
+    _HINTS = _hints.OF_RUN
+
     def __init__(
         self,
         pile: ArrayLike,
@@ -240,6 +243,7 @@ class Drive(HasPile):
         self._read(odometer=odometer)
         return odometer
 
+    @by_name()
     def height(
         self, site: SupportsIndex | None = None, *, row: SupportsIndex | None = None, column: SupportsIndex | None = None
     ) -> int:
@@ -354,8 +358,9 @@ class Drive(HasPile):
             A structured array of shape (n,), with a row for each drop: its `number` from 0 over all calls, its `site` (row *
             width + column), the `size` (topplings), the `area` (sites that toppled), the `reach` and the grains `lost`. The
             reach is the greatest distance from the site to one that toppled, in columns plus rows, the shorter way around a
-            cylinder. It is 0 if no site toppled, and also if only the site of the drop did. A row has 48 bytes; `record` and
-            `blocks` make the rows of a long run without having all in memory.
+            cylinder. It is 0 if no site toppled, and also if only the site of the drop did. ``table["size"]`` is the column;
+            ``table.size`` is NumPy's number of rows. No column has the duration of an avalanche. A row has 48 bytes; `record`
+            and `blocks` make the rows of a long run without having all in memory.
         topplings : numpy.ndarray
             Only with `odometers`: how often each site topples in each avalanche; shape (n, height, width), int64.
         sizes : numpy.ndarray
@@ -518,6 +523,7 @@ class Drive(HasPile):
         odometers: bool = False, waves: bool = False,
     ) -> Any: ...
 
+    @by_name("rows", "columns")
     def drop_at(
         self, sites: ArrayLike | None = None, *, rows: ArrayLike | None = None, columns: ArrayLike | None = None,
         odometers: bool = False, waves: bool = False,
@@ -527,8 +533,9 @@ class Drive(HasPile):
         Parameters
         ----------
         sites : array_like of int
-            Site numbers, row * width + column, shape (n,), or a single one. So ``drop_at((1, 2))`` drops a grain at site 1
-            and one at site 2; ``drop_at(rows=1, columns=2)`` drops one in row 1, column 2.
+            Site numbers, row * width + column, shape (n,), or a single one. So ``drop_at([1, 2])`` drops a grain at site 1
+            and one at site 2; ``drop_at(rows=1, columns=2)`` drops one in row 1, column 2. A tuple of two numbers that could be
+            meant so is two sites as well, with a warning.
         rows, columns : array_like of int
             Instead of `sites`, their rows and their columns, each from 0. They are broadcast, and taken row by row if there
             are several dimensions.
@@ -580,6 +587,7 @@ class Drive(HasPile):
 
         return one, False
 
+    @by_name()
     def avalanche(
         self, site: SupportsIndex | None = None, *, row: SupportsIndex | None = None, column: SupportsIndex | None = None
     ) -> tuple[np.void, Heights]:
@@ -619,6 +627,7 @@ class Drive(HasPile):
         table, topplings = self._with_odometers(*self._at(site, row, column))
         return table[0], topplings[0]
 
+    @by_name()
     def waves(
         self, site: SupportsIndex | None = None, *, row: SupportsIndex | None = None, column: SupportsIndex | None = None
     ) -> tuple[np.void, NDArray[np.int64], NDArray[np.bool_]]:

@@ -14,8 +14,10 @@ from numpy.typing import ArrayLike, NDArray
 from ._arrays import (
     HasPile, Heights, checked_edge, directions_of, edge_of, heights_and_edge, index_of, new_array, shape_of, site_at,
 )
+from ._hints import OF_ELEMENT, Hinted
 from ._library import call
 from ._memory import room_for
+from ._places import by_name
 from ._stacks import each_class, each_pile
 from .burning import burned, burned_stack
 from .faults import Fault, ShapeError
@@ -31,7 +33,7 @@ def _refuse_array(other: object) -> None:
         raise TypeError("the group adds elements, and multiplies them by integers; recurrent(array) is the element of an array")
 
 
-class Recurrent(HasPile):
+class Recurrent(HasPile, Hinted):
     """A recurrent pile, as an element of the group of its grid; or a stack of them, with operations pile by pile.
 
     ``a + b``, ``a - b``, ``-a``, ``n * a`` for any integer ``n``, and ``a == b`` are those of the group; `sum` adds several
@@ -89,6 +91,7 @@ class Recurrent(HasPile):
     """
 
     __slots__ = ("_pile", "_cylinder")
+    _HINTS = OF_ELEMENT
     # NumPy then leaves the operators to this class, so `array + a` does not add the heights site by site.
     __array_ufunc__ = None
 
@@ -128,6 +131,7 @@ class Recurrent(HasPile):
         height, width = self._pile.shape[-2:]
         return height, width
 
+    @by_name()
     def act(
         self, site: SupportsIndex | None = None, *, row: SupportsIndex | None = None, column: SupportsIndex | None = None
     ) -> Recurrent:

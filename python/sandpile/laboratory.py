@@ -129,8 +129,9 @@ def lab(
     sweeps: SupportsIndex = 0,
     observers: SupportsIndex = 0,
 ) -> Run:
-    """Runs the laboratory: many threads drop grains on one pile at once, in epochs. The pile settles after
-    each epoch.
+    """Runs the laboratory: in each epoch, each dropper, of which there are two by default, drops `drops` grains on one pile.
+
+    The droppers are threads that drop at the same time. The pile settles after each epoch.
 
     The program `sandpile` does the run: the one named by the variable SANDPILE, else that of the checkout, else the one
     installed with this module, else the one on the path. It takes sides up to 256; a `SharedPile` takes longer ones.
@@ -146,7 +147,7 @@ def lab(
     droppers : int
         Threads that drop grains, from 1 to 64.
     drops : int
-        Grains per dropper and epoch, from 0 to 1,000,000.
+        Grains of each dropper in each epoch, from 0 to 1,000,000; so there are droppers * drops * epochs in all.
     epochs : int
         From 1 to 100.
     cylinder : bool, optional

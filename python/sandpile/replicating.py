@@ -23,6 +23,7 @@ from numpy.typing import ArrayLike, NDArray
 
 from ._arrays import checked_edge, count_of, heights_and_edge, new_array, seed_of, shape_of
 from .driving import AVALANCHE, Drive
+from .faults import ShapeError
 from .progress import Bar
 from .stationary import drawn
 
@@ -262,6 +263,8 @@ def replicas(
 def _start_of(start: _Start, cylinder: bool | None) -> tuple[Any, bool | None]:
     """A checked pile with its edge, or a shape or a function of the stream, whose piles may have their own."""
     is_shape = isinstance(start, tuple) and all(map(np.isscalar, start))
+    if isinstance(start, (int, np.integer)):
+        raise ShapeError(f"start must be a shape, a pile or a function of the stream, not {start}; a shape is ({start}, {start})")
     if not is_shape and not callable(start):
         return heights_and_edge(start, cylinder)
     edge = None if cylinder is None else checked_edge(cylinder)

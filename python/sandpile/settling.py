@@ -16,6 +16,7 @@ import numpy as np
 from numpy.typing import ArrayLike
 
 from ._arrays import HasPile, Heights, heights_and_edge, new_array, shape_of
+from ._hints import OF_SETTLED, Hinted
 from ._library import call, most_grains, most_in_words
 from ._results import Result
 from .faults import Fault
@@ -26,7 +27,7 @@ _SITES_AT_ONCE = 1 << 16
 
 
 @dataclass(frozen=True, eq=False, repr=False)
-class Settled(Result, HasPile):
+class Settled(Result, HasPile, Hinted):
     """The result of settling a pile, or each pile of a stack. It can be passed as a pile or a stack.
 
     Attributes
@@ -42,6 +43,8 @@ class Settled(Result, HasPile):
     cylinder : bool
         Whether the first and the last column are neighbours.
     """
+
+    _HINTS = OF_SETTLED
 
     pile: Heights
     odometer: Heights

@@ -22,6 +22,7 @@ from ._arrays import Heights, count_of, heights_and_edge, new_array, sites_at
 from ._handles import PassHandle
 from ._library import call, call_on, most_in_words
 from ._limits import MOST_SIDE
+from ._places import by_name
 from .faults import Fault
 from .settling import Settled
 
@@ -172,6 +173,7 @@ class Part:
     def _is_joined(self) -> bool:
         return self._pass not in self._passes.outside
 
+    @by_name("rows", "columns")
     def drop(
         self, sites: ArrayLike | None = None, *, rows: ArrayLike | None = None, columns: ArrayLike | None = None
     ) -> NDArray[np.int64]:

@@ -12,7 +12,7 @@ from typing import Any, Sequence, SupportsIndex
 
 import numpy as np
 
-from ._arrays import Heights, checked_edge, count_of, index_of, listed, new_array, shape_of
+from ._arrays import Heights, checked_edge, count_of, index_of, listed, new_array, of_generator, shape_of
 from ._library import call_at, check_memory
 from ._stacks import enumerate_piles
 from .group import Recurrent
@@ -130,7 +130,7 @@ def _checked_seed(seed: Any) -> int | list[int]:
         numbers = [index_of(number, "seed") for number in seed] if are_many else [index_of(seed, "seed")]
     except TypeError:
         kinds = "an integer, a sequence of integers, a numpy.random.SeedSequence or None"
-        raise TypeError(f"seed must be {kinds}, not {seed!r}") from None
+        raise TypeError(f"seed must be {kinds}, not {seed!r}{of_generator(seed)}") from None
     if min(numbers, default=0) < 0:
         raise ValueError(f"each integer of seed must be 0 or more, but one is {min(numbers)}")
     return numbers if are_many else numbers[0]

@@ -16,8 +16,10 @@ from numpy.typing import ArrayLike, NDArray
 
 from ._arrays import check_parents, directions_of, new_array, parents_of, site_at
 from ._grid import COLUMNS, DIRECTIONS, ROWS, beside
+from ._hints import OF_TREE, Hinted
 from ._library import call
 from ._memory import room_for
+from ._places import by_name
 from ._png import Pictured
 from ._results import Result
 from .faults import Fault
@@ -30,7 +32,7 @@ _NOT_TREE = 28
 
 
 @dataclass(frozen=True, eq=False, repr=False)
-class Tree(Result, Pictured):
+class Tree(Result, Pictured, Hinted):
     """A spanning tree of a grid and the sink. Its picture has a light square for each site and each edge.
 
     Attributes
@@ -55,6 +57,8 @@ class Tree(Result, Pictured):
     (array([[2, 2, 3]]), array([[1, 2, 3]]), array([[3, 2, 1]]), array([0, 1, 2]))
     """
 
+    _HINTS = OF_TREE
+
     directions: NDArray[np.int64]
     cylinder: bool
 
@@ -74,6 +78,7 @@ class Tree(Result, Pictured):
         with room_for("the depths of a tree"):
             return depths.astype(np.int64)
 
+    @by_name()
     def path(
         self, site: SupportsIndex | None = None, *, row: SupportsIndex | None = None, column: SupportsIndex | None = None
     ) -> NDArray[np.int64]:

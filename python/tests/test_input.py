@@ -176,6 +176,20 @@ class Refused(unittest.TestCase):
                 self.assertEqual(sandpile.settle(pile).pile.tolist(), [[3, 2], [1, 0]])
             self.refuses(sandpile.settle, TypeError, [["3", "2"]])
 
+    def test_a_float_says_how_to_make_integers(self):
+        for call in (*TAKES_PILE.values(), sandpile.Drive([[3]]).drop_at):
+            self.assertRaisesRegex(TypeError, "has type float64; add dtype=int where it is made", call, np.zeros((3, 3)))
+
+    def test_a_shape_in_place_of_a_pile(self):
+        for name, call in TAKES_PILE.items():
+            for pile, shape in (((64, 32), "(64, 32)"), ([64, 32], "(64, 32)"), (np.array([64, 32]), "(64, 32)"), (64, "(64, 64)")):
+                with self.subTest(call=name, pile=pile), self.assertRaises(ShapeError) as caught:
+                    call(pile)
+                self.assertIn(f"of the shape {shape}, numpy.zeros({shape}, int) is an empty pile, and random_", str(caught.exception))
+            with self.assertRaises(ShapeError) as caught:
+                call([64, 32, 3])
+            self.assertNotIn("random_recurrent", str(caught.exception))
+
     def test_piles_with_a_fault(self):
         for call in TAKES_PILE:
             for name, (pile, number) in FAULTS.items():

@@ -48,6 +48,9 @@ class Ends(unittest.TestCase):
         self.assertEqual(run.epochs.tolist(), [(0, 6, 1, 4, 2), (1, 6, 2, 8, 0)])
         self.assertEqual((run.pile.tolist(), run.odometer.tolist(), run.epochs.dtype), ([[0]], [[3]], sandpile.EPOCH))
 
+    def test_its_first_line_says_whose_the_drops_are(self):
+        self.assertRegex(sandpile.lab.__doc__.partition("\n")[0], "each dropper, of which there are two by default, drops `drops`")
+
     def test_its_seed(self):
         words, sequence, seeds = self.program.with_name("words"), np.random.SeedSequence(7), []
         for given in ({}, {"seed": None}, {"seed": 2**32 - 1}, {"seed": sequence}):

@@ -4,6 +4,7 @@ import re
 import unittest
 
 import sandpile
+from sandpile import _hints
 from sandpile.faults import _FAULTS
 from tools import TOP, program
 
@@ -15,6 +16,53 @@ OF_ARRAYS = {2, 4, 19, 22, 23, 25}
 OF_LIMITS = {1, 3, 6}
 # The faults of which the docs say both, or name what only Rattle has.
 OF_BOTH = {1, 2, 3, 4, 14, 15, 17, 19, 22, 23}
+
+
+# What has no attribute of these names, with what its error says.
+WORDS = (
+    (sandpile, {name: "settle(pile)" for name in ("stabilize", "stabilise", "relax", "topple", "odometer")}),
+    (sandpile, {"duration": "toppling=True", "laplacian": "toppling_matrix(shape)", "burning_test": "burn(pile)", "order": "COOKBOOK"}),
+    (sandpile.Drive([[3]]), {"add": "drop_at(sites)", "relax": "drop(n)", "duration": "toppling=True", "size": '["size"]'}),
+    (sandpile.identity((3, 3)), {"order": "docs/COOKBOOK.md", "add": "a + b", "heights": "pile"}),
+    (sandpile.identity((3, 3)).tree(), {"depths": "depth", "parent": "parents"}),
+    (sandpile.burn([[3]]), {"times": "time", "recurrent": "is_recurrent"}),
+    (sandpile.settle([[5]]), {"heights": "pile", "firing": "odometer", "dissipated": "lost"}),
+)
+
+
+class OtherWords(unittest.TestCase):
+    def test_the_error_of_a_missing_name_says_how_it_is_called(self):
+        for where, words in WORDS:
+            for name, said in words.items():
+                with self.subTest(name=name), self.assertRaises(AttributeError) as caught:
+                    getattr(where, name)
+                self.assertRegex(str(caught.exception), f"has no attribute '{name}': .*{re.escape(said)}")
+
+    def test_none_is_an_alias(self):
+        for where, words in WORDS:
+            for name in words:
+                self.assertFalse(hasattr(where, name), name)
+                self.assertNotIn(name, dir(where))
+
+    def test_other_errors_are_those_of_python(self):
+        for where, _ in WORDS:
+            with self.assertRaisesRegex(AttributeError, "has no attribute 'nosuch'$"):
+                where.nosuch
+
+        class Failing(sandpile.Drive):
+            @property
+            def fails(self):
+                return self.pile.nosuch
+
+        self.assertRaisesRegex(AttributeError, "'numpy.ndarray' object has no attribute 'nosuch'", lambda: Failing([[3]]).fails)
+
+    def test_what_they_name_is_there(self):
+        for hints in (_hints.OF_MODULE, _hints.OF_RUN, _hints.OF_ELEMENT):
+            for said in hints.values():
+                for call in re.findall(r"(?<![\w.])([a-z_]+)\(", said):
+                    self.assertTrue(hasattr(sandpile, call) or hasattr(sandpile.Drive, call), said)
+        recipe = re.search("recipe '(.*)'", _hints.OF_ELEMENT["order"])[1]
+        self.assertIn(f"\n## {recipe}\n", (TOP / "docs" / "COOKBOOK.md").read_text())
 
 
 class Names(unittest.TestCase):

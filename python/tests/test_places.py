@@ -1,6 +1,8 @@
 """Sites by their rows and columns, where a call also takes their numbers."""
 
+import inspect
 import unittest
+import warnings
 
 import numpy as np
 import sandpile
@@ -53,7 +55,33 @@ class Lists(unittest.TestCase):
 
     def test_a_pair_is_two_sites(self):
         one, other = runs()
-        self.assertTrue(same(one.drop_at((1, 2)), other.drop_at([1, 2])))
+        said = r"^\(1, 2\) drops a grain at site 1 and one at site 2; a row and a column are passed by name: rows=1, columns=2"
+        with self.assertWarnsRegex(UserWarning, said) as caught:
+            table = one.drop_at((1, 2))
+        self.assertEqual(caught.filename, __file__)
+        self.assertTrue(same(table, other.drop_at([1, 2])))
+        with sandpile.SharedPile(START, quota=2) as pile, pile.split(2) as part, self.assertWarnsRegex(UserWarning, said) as caught:
+            part.drop((np.int8(1), 2))
+        self.assertEqual(caught.filename, __file__)
+
+    def test_other_lists_are_no_pair(self):
+        run = sandpile.Drive(START)
+        with warnings.catch_warnings():
+            warnings.simplefilter("error")
+            for sites in ((1, 5), (3, 1), (1, 2, 3), (1,), [1, 2], np.array([1, 2]), range(1, 3)):
+                run.drop_at(sites)
+            before = run.drops
+            self.assertRaises(UserWarning, run.drop_at, (1, 2))
+            self.assertEqual(run.drops, before)
+
+    def test_two_positions(self):
+        run = sandpile.Drive(START)
+        for words in ((1, 2), ([1, 2], [3, 4]), (1, 2, 3)):
+            with self.assertRaisesRegex(TypeError, r"a row and a column are passed by name: drop_at\(rows=.., columns=..\)"):
+                run.drop_at(*words)
+        with sandpile.SharedPile(START, quota=2) as pile, pile.split(2) as part:
+            self.assertRaisesRegex(TypeError, r"by name: drop\(rows=.., columns=..\)", part.drop, 1, 2)
+        self.assertEqual(run.drops, 0)
 
     def test_one_way_only(self):
         run = sandpile.Drive(START)
@@ -68,7 +96,8 @@ class Lists(unittest.TestCase):
 
 class One(unittest.TestCase):
     def calls(self):
-        return sandpile.Drive(START).avalanche, sandpile.identity(SHAPE).act
+        run, a = sandpile.Drive(START), sandpile.identity(SHAPE)
+        return run.avalanche, a.act, run.waves, run.height, a.tree().path
 
     def test_it_is_the_site(self):
         for row, column in np.ndindex(SHAPE):
@@ -91,4 +120,10 @@ class One(unittest.TestCase):
             self.assertRaisesRegex(TypeError, "a site is either a number, or a row and a column", call, 1, row=1)
             self.assertRaisesRegex(TypeError, "column must be an integer, not None", call, row=1)
             self.assertRaisesRegex(TypeError, "row must be an integer, not 1.5", call, row=1.5, column=1)
-            self.assertRaises(TypeError, call, 1, 2)
+            name = call.__name__
+            self.assertRaisesRegex(TypeError, rf"by name: {name}\(row=.., column=..\)", call, 1, 2)
+
+    def test_help_shows_the_names(self):
+        for call in (*self.calls(), sandpile.Drive(START).drop_at, sandpile.Part.drop):
+            names = set(inspect.signature(call).parameters)
+            self.assertTrue({"site", "row", "column"} <= names or {"sites", "rows", "columns"} <= names, names)

@@ -381,6 +381,12 @@ class Wrong(unittest.TestCase):
             with self.subTest(words=words, **more), self.assertRaises(TypeError):
                 sandpile.replicas(*words, **more)
 
+    def test_a_number_is_no_start(self):
+        for start in (64, np.int64(64)):
+            for kind in (ValueError, TypeError):
+                with self.assertRaisesRegex(kind, r"start must be a shape, .*, not 64; a shape is \(64, 64\)"):
+                    sandpile.replicas(start, 7, range(2), 9)
+
     def test_a_number_is_no_streams(self):
         said = r"^streams must be several integers, such as range\(4\), not 4$"
         self.assertRaisesRegex(TypeError, said, sandpile.replicas, (3, 3), 1, 4, 1)

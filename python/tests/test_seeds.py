@@ -49,6 +49,10 @@ class Seeds(unittest.TestCase):
             for seed in (1.5, "7", [7], np.random.default_rng(7)):
                 with self.assertRaisesRegex(TypeError, "seed must be an integer, a numpy.random.SeedSequence or None"):
                     call(FULL, seed)
+            self.assertRaisesRegex(TypeError, r"so make it of these: numpy.random.SeedSequence\(", call, FULL, [1, 2])
+        for call in (sandpile.Drive, sandpile.lab, lambda _, seed: sandpile.random_recurrent((2, 2), seed)):
+            for seed in (np.random.default_rng(7), np.random.RandomState(7)):
+                self.assertRaisesRegex(TypeError, r"a generator .* so draw one: seed=rng.integers\(2\*\*32\)", call, FULL, seed)
 
 
 def sites_of(shape, seed, stream, place, count):
