@@ -86,13 +86,26 @@ class Pictures(unittest.TestCase):
         self.assertEqual(lines[-1], "pictures: 0 passed, 2 failed")
         self.assertEqual([frames_in(page.with_name(f"python-{name}")) for name in ("one.png", "two.gif")], [1, 2])
 
+    def assertNoneIsMade(self, page):
+        path, made = new_folder(self) / "PAGE.md", script("page-pictures")
+        path.write_text(page)
+        with mock.patch.object(made, "PAGES", [path]), self.assertRaises(subprocess.CalledProcessError):
+            made.main([])
+        self.assertEqual([path.name for path in path.parent.iterdir()], ["PAGE.md"])
+
     @needs_module("matplotlib")
     def test_each_axis_has_a_label(self):
+        self.assertNoneIsMade(DRAWN.replace('plt.ylabel("b")', ""))
+
+    @needs_module("matplotlib", "PIL")
+    def test_several_lines_have_a_legend(self):
+        for more in ("plt.plot([2, 1])", "plt.errorbar([0, 1], [2, 1], 0.1, capsize=3)"):
+            with self.subTest(more):
+                self.assertNoneIsMade(DRAWN.replace("plt.plot([1, 2])", f"plt.plot([1, 2])\n{more}"))
         page, made = new_folder(self) / "PAGE.md", script("page-pictures")
-        page.write_text(DRAWN.replace('plt.ylabel("b")', ""))
-        with mock.patch.object(made, "PAGES", [page]), self.assertRaises(subprocess.CalledProcessError):
-            made.main([])
-        self.assertEqual([path.name for path in page.parent.iterdir()], ["PAGE.md"])
+        page.write_text(DRAWN.replace("plt.plot([1, 2])", "plt.errorbar([0, 1], [1, 2], 0.1, capsize=3)"))
+        with mock.patch.object(made, "PAGES", [page]), contextlib.redirect_stdout(io.StringIO()):
+            self.assertEqual(made.main([]), 0)
 
 
 class Recipes(unittest.TestCase):
