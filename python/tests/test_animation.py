@@ -1,12 +1,15 @@
 """Animations: the frames of avalanches, and the files that are saved."""
 
+import base64
 import contextlib
 import copy
 import io
 import itertools
 import os
+import re
 import sys
 import unittest
+import warnings
 from unittest import mock
 
 import numpy as np
@@ -24,6 +27,14 @@ def frames(run, drops, **how):
     plt.gcf().canvas.draw()
     plt.close()
     return list(animation.new_saved_frame_seq())
+
+
+def pictures_in(page):
+    """The frames of a player, as arrays."""
+    from PIL import Image
+
+    found = (base64.b64decode(text.replace("\\\n", "")) for text in re.findall(r'"data:image/png;base64,([^"]*)"', page))
+    return [np.asarray(Image.open(io.BytesIO(png)).convert("RGB")) for png in found]
 
 
 def topple(heights, sites, cylinder):
@@ -126,6 +137,59 @@ class Animate(unittest.TestCase):
             self.assertRegex(said.getvalue(), r"^\r1 of 7 drops.*\r7 of 7 drops\n$")
             for one, other in itertools.zip_longest(shown, frames(run, 7, **how)):
                 self.assertTrue(np.array_equal(one, other))
+
+    def test_a_player_has_the_frames_that_matplotlib_draws(self):
+        import matplotlib.pyplot as plt
+        from matplotlib.animation import Animation
+
+        for shape, how in (((8, 16), {}), ((20, 10), {"waves": True}), ((3, 8), {"toppling": True}), ((64, 64), {})):
+            run = sandpile.Drive(np.full(shape, 3), seed=1)
+            animation = sandpile.animate(run, 6, interval=50, **how)
+            with warnings.catch_warnings():
+                warnings.simplefilter("error")
+                encoded = animation.to_jshtml()
+            drawn = Animation.to_jshtml(animation)
+            plt.close()
+            pictures = [pictures_in(text) for text in (encoded, drawn)]
+            with self.subTest(shape=shape):
+                self.assertEqual(*map(len, pictures))
+                for one, other in zip(*pictures):
+                    self.assertEqual(one.shape, other.shape)
+                    self.assertLessEqual(abs(one.astype(int) - other).max(), 1)
+                same = [re.sub(r'"data:image[^"]*"|[0-9a-f]{32}', "", text) for text in (encoded, drawn)]
+                self.assertEqual(*same)  # the interval and how often it is repeated, too
+
+    def test_a_player_of_an_odd_number_of_pixels(self):
+        import matplotlib.pyplot as plt
+
+        animation = sandpile.animate(sandpile.Drive(np.full((3, 7), 3), seed=1), 2)
+        self.assertEqual([picture.shape for picture in pictures_in(animation.to_jshtml())], 2 * [(219, 511, 3)])
+        plt.close()
+
+    def test_a_player_is_made_without_drawing_each_frame(self):
+        import matplotlib.pyplot as plt
+        from matplotlib.figure import Figure
+
+        animation = sandpile.animate(sandpile.Drive(sandpile.random_recurrent((64, 64), 1), seed=1), 100)
+        with mock.patch.object(Figure, "savefig", side_effect=AssertionError):
+            page = animation.to_jshtml(fps=5, default_mode="reflect")
+        self.assertEqual(page.count("data:image/png"), 100)
+        self.assertLess(len(page), 900_000)  # matplotlib makes 1,200,000
+        plt.close()
+
+    def test_what_was_added_is_in_the_player(self):
+        import matplotlib.pyplot as plt
+
+        def titled(ax):
+            ax.set_title("A title")
+
+        for add in (titled, lambda ax: ax.plot([0, 7], [0, 7]), lambda ax: ax.figure.text(0, 0, "A"), lambda ax: ax.set_xlim(0, 3)):
+            animation = sandpile.animate(sandpile.Drive(np.full((8, 8), 3), seed=1), 2)
+            plain = pictures_in(animation.to_jshtml())
+            add(plt.gca())
+            shown = pictures_in(animation.to_jshtml())
+            self.assertFalse(plain[0].shape == shown[0].shape and np.allclose(plain[0], shown[0], atol=1))
+            plt.close()
 
     def test_given_axes(self):
         import matplotlib.pyplot as plt
