@@ -40,6 +40,12 @@ class HasPile(Pictured):
         @property
         def cylinder(self) -> bool: ...
 
+    if not TYPE_CHECKING:  # so that a type checker refuses a loop, too
+
+        def __iter__(self) -> Any:
+            # What lacks this is a single number for pandas, whose tables would then add or compare the heights transposed.
+            raise TypeError(f"a {type(self).__name__} is not iterable, but its heights, `.pile`, are")
+
     def __array__(self, dtype: Any = None, copy: bool | None = None) -> NDArray[Any]:
         if copy is False:
             return self._uncopied(dtype)

@@ -6,7 +6,7 @@ that a pile has room for. The space is proportional to the sites. A stack of ele
 
 from __future__ import annotations
 
-from typing import TYPE_CHECKING, Any, Literal, Sequence, SupportsIndex, overload
+from typing import TYPE_CHECKING, Any, Iterator, Literal, Sequence, SupportsIndex, overload
 
 import numpy as np
 from numpy.typing import ArrayLike, NDArray
@@ -391,6 +391,9 @@ class Recurrent(HasPile, Hinted):
 
     def __getitem__(self, key: Any) -> Any:
         return self._pile[key]
+
+    def __iter__(self) -> Iterator[Any]:
+        return iter(self._pile)
 
     def __reduce__(self) -> tuple[Any, tuple[Heights, bool]]:
         return Recurrent._known, (self._pile, self._cylinder)
