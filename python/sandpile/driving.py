@@ -88,10 +88,12 @@ class _Asked:
     def __init__(self, first: int, drawn: int, draws: bool, table: NDArray[np.void], made: int = 0) -> None:
         self.first, self.drawn = first, drawn  # drops before this call, and how many of them were at sites of the stream
         self.draws, self.table, self.made = draws, table, made
+        self._part = table  # its rows that are filled, the same array at each look
 
     def state(self) -> _State:
-        table = self.table if self.made == len(self.table) else self.table[: self.made]
-        return _State(self.first + self.made, self.drawn + self.made * self.draws, table)
+        if len(self._part) != self.made:
+            self._part = self.table if self.made == len(self.table) else self.table[: self.made]
+        return _State(self.first + self.made, self.drawn + self.made * self.draws, self._part)
 
     def fill(self, made: int, found: NDArray[np.void]) -> None:
         """Fills the rows up to one with the avalanches that the library has found last. Ctrl-C can come at any time."""
@@ -290,7 +292,8 @@ class Drive(HasPile, _hints.Hinted):
 
     @property
     def table(self) -> NDArray[np.void]:
-        """The avalanches of the last call of `drop`, `drop_at` or `avalanche`, even if Ctrl-C stopped it."""
+        """The avalanches of the last call of `drop`, `drop_at`, `avalanche` or `waves`: the array that it returned, or if Ctrl-C
+        stopped it, those until then, the same array at each look."""
         return self._current().table
 
     @property
@@ -336,8 +339,8 @@ class Drive(HasPile, _hints.Hinted):
         """Drops `n` grains at the next random sites.
 
         Ctrl-C stops between two blocks of drops, of about a twentieth of a second, unless one avalanche takes longer. It raises
-        `KeyboardInterrupt`; the pile then has all drops so far, and `table` has their avalanches. The next call continues from
-        there.
+        `KeyboardInterrupt`; the pile then has all drops so far, and `table` has their avalanches, but their topplings or waves are
+        lost. The next call continues from there.
 
         Parameters
         ----------

@@ -2,6 +2,7 @@
 
 import itertools
 import linecache
+import re
 import sys
 import unittest
 from unittest import mock
@@ -11,9 +12,11 @@ import sandpile
 from sandpile import driving
 from test_live import equal
 from test_random import toppling_matrix
-from tools import in_blocks, same
+from tools import TOP, in_blocks, same
 
 FULL = np.full((32, 32), 3)
+# The cell of a notebook that gathers blocks.
+CELL = compile(re.search(r"^def cell\(.*?^\n\n", (TOP / "docs" / "COOKBOOK.md").read_text(), re.M | re.S)[0], "cell", "exec")
 
 
 def two_runs(**words):
@@ -47,22 +50,15 @@ class Blocks(unittest.TestCase):
             self.assertRaises(TypeError, run.blocks, *words)
 
 
-def cell(run, rows, n):
-    """A cell of a notebook that gathers blocks, as the page has it."""
-    if rows[-1] is not run.table:
-        rows.append(run.table)
-    for table in run.blocks(n - run.drops, 30):
-        rows.append(table)
-
-
 def is_stopped_at(number, call):
-    """Whether Ctrl-C came during a call: at this step of it or of the module, of those where it can come."""
+    """Whether Ctrl-C came during a cell: at this step of it or of the module, of those where it can come."""
     steps = itertools.count()
 
     def trace(frame, event, _):
-        if frame.f_code is not cell.__code__ and frame.f_code.co_filename != driving.__file__:
+        is_cell = frame.f_code.co_filename == "cell"
+        if not is_cell and frame.f_code.co_filename != driving.__file__:
             return None
-        frame.f_trace_opcodes = frame.f_code is cell.__code__
+        frame.f_trace_opcodes = is_cell
         is_with = linecache.getline(frame.f_code.co_filename, frame.f_lineno).lstrip().startswith("with ")  # it has its lock
         if event in ("line", "opcode") and not is_with and next(steps) == number:
             raise KeyboardInterrupt
@@ -80,18 +76,64 @@ def is_stopped_at(number, call):
 
 
 class Cells(unittest.TestCase):
+    """What the page's cell gathers, whatever stops it, if it is run again."""
+
+    def setUp(self):
+        self.run_of_cell = run = in_blocks(sandpile.Drive(FULL, seed=5), 20)
+        names = {"run": run, "rows": [run.drop(0)]}
+        exec(CELL, names)
+        self.rows, self.cell = names["rows"], names["cell"]
+
+    def stop_in_a_part(self):
+        """Stops the cell after 20 drops of a part of 30."""
+        with mock.patch.object(self.run_of_cell, "_go_on", mock.Mock(side_effect=[None, KeyboardInterrupt])):
+            self.assertRaises(KeyboardInterrupt, self.cell, 100, 30)
+
+    def assert_gathered(self, drops):
+        self.assertTrue(same(np.concatenate(self.rows), sandpile.Drive(FULL, seed=5).drop(drops)))
+
     def test_one_that_is_stopped_and_run_again(self):
-        for number in itertools.count():
-            run, other = (sandpile.Drive(FULL, seed=5) for _ in range(2))
-            in_blocks(run, 20)
-            rows = [run.drop(0)]
-            is_stopped = is_stopped_at(number, lambda: cell(run, rows, 100))
-            cell(run, rows, 100)
-            with self.subTest(number=number):
-                self.assertTrue(same(np.concatenate(rows), other.drop(100)))
-            if not is_stopped:
-                break
-        self.assertGreater(number, 200)
+        for is_again in (False, True):
+            for number in itertools.count():
+                self.setUp()
+                if is_again:
+                    self.stop_in_a_part()
+                is_stopped = is_stopped_at(number, lambda: self.cell(100, 30))
+                self.cell(100, 30)
+                with self.subTest(number=number, is_again=is_again):
+                    self.assert_gathered(100)
+                if not is_stopped:
+                    break
+            self.assertGreater(number, 200)
+
+    def test_one_that_is_stopped_again_before_a_drop(self):
+        self.stop_in_a_part()
+        for _ in range(3):
+            with mock.patch.object(self.run_of_cell, "blocks", side_effect=KeyboardInterrupt):
+                self.assertRaises(KeyboardInterrupt, self.cell, 100, 30)
+        self.cell(100, 30)
+        self.assert_gathered(100)
+
+    def test_one_that_lacks_memory(self):
+        self.stop_in_a_part()
+        for _ in range(3):
+            with mock.patch.object(driving, "new_array", side_effect=sandpile.Fault(4)):
+                self.assertRaises(MemoryError, self.cell, 100, 30)
+        self.cell(100, 30)
+        self.assert_gathered(100)
+
+    def test_one_that_wants_no_more(self):
+        self.stop_in_a_part()
+        for _ in range(3):
+            self.cell(20, 30)
+            self.assert_gathered(20)
+
+    def test_the_rows_so_far_are_the_same_array(self):
+        run = self.run_of_cell
+        self.stop_in_a_part()
+        self.assertIs(run.table, run.table)
+        self.assertRaises(TypeError, run.drop, "5")
+        self.assertEqual(len(run.table), 20)
 
 
 class Odometers(unittest.TestCase):
