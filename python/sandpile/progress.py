@@ -11,6 +11,14 @@ from types import TracebackType
 from typing import Any
 
 
+def _tqdm() -> Any:
+    """The bar of tqdm: in a notebook a widget, but text if ipywidgets is older than 7, as Debian's is. A notebook that is executed by
+    nbconvert cannot have widgets of those."""
+    bar = importlib.import_module("tqdm.auto").tqdm
+    widgets = getattr(sys.modules.get("ipywidgets"), "version_info", (7,))  # which tqdm imports in a notebook
+    return bar if widgets >= (7,) else importlib.import_module("tqdm.std").tqdm
+
+
 class Bar:
     """Shows how many of `total` drops or replicas are done: with tqdm if it is installed, else on a line that is overwritten.
 
@@ -26,7 +34,7 @@ class Bar:
         try:
             with warnings.catch_warnings():
                 warnings.simplefilter("ignore")  # in a notebook without ipywidgets the bar is text, which is fine
-                tqdm: Any = importlib.import_module("tqdm.auto").tqdm
+                tqdm = _tqdm()
             self._lock = tqdm.get_lock()
             self._tqdm = tqdm(total=self._total, unit=self._unit, unit_scale=True)
         except Exception:

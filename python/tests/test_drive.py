@@ -213,6 +213,15 @@ class Progress(unittest.TestCase):
             self.assertRaises(KeyboardInterrupt, run.drop, 20_000, progress=True)
         self.assertEqual((len(run.table), tqdm.is_free()), (2 * 8192, True))
 
+    def test_widgets_that_a_notebook_cannot_be_executed_with(self):
+        for version, is_widget in (((6, 0, 0, "final", 0), False), ((7, 0, 0), True), ((8, 1, 5), True), (None, True)):
+            widget, text = Broken(None), Broken(None)
+            modules = {"tqdm.auto": types.SimpleNamespace(tqdm=widget), "tqdm.std": types.SimpleNamespace(tqdm=text)}
+            modules["ipywidgets"] = version and types.SimpleNamespace(version_info=version)
+            with self.subTest(version=version):
+                self.assertEqual(self.shown(modules, io.StringIO()), "")
+                self.assertEqual((widget.n, text.n), (20_000, 0) if is_widget else (0, 20_000))
+
     def test_a_standard_error_that_fails(self):
         shut = io.StringIO()
         shut.close()

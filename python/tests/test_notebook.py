@@ -71,16 +71,24 @@ class Notebook(unittest.TestCase):
         self.assertTrue(is_widget or "50" in said, progress)
         self.assertNotIn("Warning", said)
 
-
-    @needs_module("venv", "ipykernel")
+    @needs_module("venv", "nbconvert", "ipykernel")
     def test_the_page_gives_the_environment_its_own_kernel(self):
-        line = re.search(r"^env/bin/python -m ipykernel [^#\n]*", (TOP / "docs" / "PYTHON.md").read_text(), re.M)
-        self.assertTrue(line, "Debian's kernel is /usr/bin/python3, which does not look into the environment")
+        """By the lines of the page and with Debian's Jupyter, which does not look into the environment, in an empty account."""
+        page = (TOP / "docs" / "PYTHON.md").read_text()
+        kernel = re.search(r"^env/bin/python -m ipykernel [^#\n]*", page, re.M)[0].split()
+        execute = re.search(r"^jupyter (nbconvert .*) --to html (.*) examples/sandpile.ipynb$", page, re.M).groups()
         folder = new_folder(self)
+        env = {**{name: value for name, value in ENV.items() if not name.startswith(("JUPYTER", "XDG"))}, "HOME": str(folder)}
+        notebook = json.loads(NOTEBOOK.read_text())
+        code = next(cell for cell in notebook["cells"] if cell["cell_type"] == "code")
+        notebook["cells"] = [{**code, "source": "import sys\nprint(sys.executable)"}]
+        (folder / "it.ipynb").write_text(json.dumps(notebook))
         ran(sys.executable, "-m", "venv", "--system-site-packages", "--without-pip", folder / "env")
-        ran(*line[0].split(), cwd=folder, env={**ENV, "HOME": str(folder)})
-        kernel = json.loads((folder / "env/share/jupyter/kernels/python3/kernel.json").read_text())
-        self.assertEqual(kernel["argv"][0], str(folder / "env/bin/python"))
+        ran(*kernel, cwd=folder, env=env)
+        words = " ".join(execute).split()
+        ran(sys.executable, "-m", *words, "--to", "notebook", "--output", "made", "it.ipynb", cwd=folder, env=env)
+        shown = outputs_of(json.loads((folder / "made.ipynb").read_text()))
+        self.assertEqual([text for outputs in shown.values() for _, text in outputs], [f"{folder / 'env/bin/python'}\n"])
 
 
 @needs_module("jupyter_client", "ipykernel")
