@@ -12,7 +12,7 @@ import time
 import unittest
 from unittest import mock
 
-from tools import TOP, needs, needs_module, new_folder
+from tools import TOP, needs, needs_module, new_folder, ran
 
 PAGE = """
 ```python
@@ -123,6 +123,12 @@ class Recipes(unittest.TestCase):
         folder, tried = new_folder(self), script("try-examples")
         text, _ = tried.run("env | grep -c ALLOW_RUN_AS_ROOT", folder)
         self.assertEqual(text, "4\n")
+
+    def test_the_page_sets_for_mpi_what_is_tried(self):
+        lines = re.findall(r"`(export [^`]*)`", (TOP / "docs" / "COOKBOOK.md").read_text())
+        said = ran("bash", "-c", "\n".join([*lines, "env"]), env={"PATH": os.environ["PATH"]}).splitlines()
+        for name, value in script("try-examples").FOR_MPI.items():
+            self.assertIn(f"{name}={value}", said)
 
 
 class Versions(unittest.TestCase):
