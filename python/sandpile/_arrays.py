@@ -22,6 +22,7 @@ Heights = NDArray[np.int64]
 
 _TOO_MANY_GRAINS, _SHAPES, _NOT_TREE = 3, 9, 28
 _COPY = "a copy of the heights"
+_BOOLS = {bool, np.bool_}
 # NumPy before 1.24 makes an array of lists of them, with a warning.
 _ALLOWS_RAGGED = tuple(map(int, np.__version__.split(".")[:2])) < (1, 24)
 
@@ -74,6 +75,8 @@ def _integers(values: ArrayLike, what: str) -> NDArray[Any]:
     if any(isinstance(part, np.ma.MaskedArray) for part in parts):
         raise TypeError(f"{what} must be plain arrays, not masked ones")
     array = _array_of(values, what)
+    if is_list and array.size:
+        _check_list(values, what)
     if not array.size or array.dtype.kind in "iu":
         return array
     if is_list or isinstance(values, int):
@@ -82,6 +85,28 @@ def _integers(values: ArrayLike, what: str) -> NDArray[Any]:
             return objects
     how = "; add dtype=int where it is made" if array.dtype.kind == "f" else ""
     raise TypeError(f"{what} must be integers of at most 64 bits, but this array has type {array.dtype}{how}")
+
+
+def _check_list(values: ArrayLike, what: str) -> None:
+    """Refuses masked arrays anywhere in a list, whose hidden values NumPy would take, and bools among integers, of which it would
+    make integers."""
+    kinds = _kinds_in(values)
+    if any(issubclass(kind, np.ma.MaskedArray) for kind in kinds):
+        raise TypeError(f"{what} must be plain arrays, not masked ones")
+    if not kinds.isdisjoint(_BOOLS):
+        raise TypeError(f"{what} must be integers of at most 64 bits, but this list has values of type bool")
+
+
+def _kinds_in(values: Any) -> set[type]:
+    """The types of what is in nested lists. Of an array there it is also that of its values."""
+    kinds = {*map(type, values)}
+    if any(issubclass(kind, (list, tuple, np.ndarray)) for kind in kinds):
+        for part in values:
+            if isinstance(part, np.ndarray):
+                kinds.add(part.dtype.type)
+            elif isinstance(part, (list, tuple)):
+                kinds |= _kinds_in(part)
+    return kinds
 
 
 def _array_of(values: ArrayLike, what: str) -> NDArray[Any]:

@@ -62,6 +62,11 @@ NO_PILES = {
     "masked": MASKED,
     "a list of masked rows": [MASKED[0], MASKED[0]],
     "a tuple with a masked row": ([3, 3], MASKED[0]),
+    "a list of lists of masked rows": [[MASKED[0], [3, 3]], ([3, 3], [3, 3])],
+    "a list of lists of masked arrays": [[MASKED[0]], [MASKED[0]]],
+    "bools and integers": [[True, 5]],
+    "a bool of NumPy": [[5, 3], (np.True_, 5)],
+    "an array of bools": [np.array([True, False]), [3, 3]],
     "a record": np.zeros((2, 2), [("x", int)]),
     "None": None,
 }
@@ -224,7 +229,7 @@ class Refused(unittest.TestCase):
             self.refuses(run.drop_at, 25, sites)
         for sites in [[2**64], [3, 2**63, -1], (-(2**64),), 2**64, -(2**63) - 1]:
             self.refuses(run.drop_at, 25, sites)
-        for sites in [[0.0], ["0"], [[0, 1]], np.array([True]), [None], [2**64, 0.5]]:
+        for sites in [[0.0], ["0"], [[0, 1]], np.array([True]), [None], [2**64, 0.5], [True, 5], [np.True_, 5], True]:
             self.refuses(run.drop_at, TypeError, sites)
         self.assertEqual(pickle.dumps(run), before)
         self.assertEqual(len(run.drop_at([])), 0)
