@@ -106,7 +106,8 @@ class Recurrent(HasPile, Hinted):
 
     def _keep(self, heights: Heights, cylinder: bool) -> None:
         heights.flags.writeable = False
-        self._pile, self._cylinder = heights, cylinder
+        # Nobody can make a view of it writeable, and so change what has a hash.
+        self._pile, self._cylinder = heights.view(), cylinder
 
     @classmethod
     def _known(cls, heights: Heights, cylinder: bool) -> Recurrent:

@@ -389,3 +389,15 @@ class Group(unittest.TestCase):
         self.assertNotEqual(sandpile.identity((3, 3)), sandpile.identity((3, 3), cylinder=True))
         again = pickle.loads(pickle.dumps(a))
         self.assertEqual((again, again.pile.flags.writeable), (a, False))
+
+    def test_nobody_can_change_an_element(self):
+        a = sandpile.Recurrent([[3, 2], [2, 2]])
+        made = [a + a, -a, 3 * a, 2**70 * a, a.act(0), sandpile.identity((2, 2)), sandpile.random_recurrent((2, 2), 1)]
+        copies = [copy.copy(a), copy.deepcopy(a), pickle.loads(pickle.dumps(a)), sandpile.Recurrent.from_tree(a.tree())]
+        for element in (a, *made, *copies, sandpile.recurrent([[[7, 1]]])):
+            before = hash(element)
+            with self.assertRaises(ValueError):
+                element.pile.flags.writeable = True
+            with self.assertRaises(ValueError):
+                element.pile[0] = 1
+            self.assertEqual(hash(element), before)
