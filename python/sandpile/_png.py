@@ -102,6 +102,12 @@ class Pictured:
         @property
         def pile(self) -> NDArray[Any]: ...
 
+    if not TYPE_CHECKING:  # so that a type checker refuses this, too
+
+        def __array__(self, dtype: Any = None, copy: bool | None = None) -> Any:
+            # Else NumPy would make an array of one object, which `numpy.save` writes and `numpy.load` refuses.
+            raise TypeError(f"a {type(self).__name__} is no array: pass one that it has, such as `.{self._ARRAY}`")
+
     def _shown(self) -> Any:
         """What is drawn: an array, perhaps a masked one."""
         return self.pile

@@ -48,6 +48,7 @@ class Burned(Result, Pictured, Hinted):
     forbidden: NDArray[np.bool_]
     _heights: Heights = field(repr=False)
     _cylinder: bool = field(repr=False)
+    _ARRAY = "time"
 
     @cached_property
     def time(self) -> NDArray[np.int64]:

@@ -61,6 +61,7 @@ class Tree(Result, Pictured, Hinted):
 
     directions: NDArray[np.int64]
     cylinder: bool
+    _ARRAY = "directions"
 
     @property
     def parents(self) -> NDArray[np.int64]:

@@ -2,6 +2,7 @@
 
 import copy
 import dataclasses
+import io
 import os
 import pickle
 import unittest
@@ -60,6 +61,23 @@ class Compared(unittest.TestCase):
     def test_no_hash(self):
         for result in results():
             self.assertRaisesRegex(TypeError, "unhashable", hash, result)
+
+
+class Arrays(unittest.TestCase):
+    def test_what_has_several_is_none(self):
+        file = io.BytesIO()
+        for result, name in ((sandpile.identity((2, 3)).tree(), "directions"), (sandpile.burn([[3, 3]]), "time")):
+            for call in (np.asarray, lambda it: np.save(file, it), sandpile.settle, lambda it: np.zeros(2) + it):
+                said = f"a {type(result).__name__} is no array: pass one that it has, such as `.{name}`"
+                self.assertRaisesRegex(TypeError, said, call, result)
+            self.assertIsInstance(getattr(result, name), np.ndarray)
+        self.assertEqual(file.getvalue(), b"")
+
+    def test_one_that_is_saved_can_be_loaded(self):
+        for result in (sandpile.settle(PILE), sandpile.recurrent(PILE), sandpile.Drive(PILE)):
+            file = io.BytesIO()
+            np.save(file, result)
+            self.assertEqual(np.load(io.BytesIO(file.getvalue())).tolist(), result.pile.tolist())
 
 
 class Printed(unittest.TestCase):
