@@ -9,7 +9,7 @@ import os
 import zipfile
 from dataclasses import dataclass, fields
 from pathlib import Path
-from typing import Any, NamedTuple, Optional
+from typing import Any, Iterator, NamedTuple, Optional
 
 import numpy as np
 from numpy.lib import format as _format
@@ -62,6 +62,17 @@ class Saved:
         return given
 
 
+@contextlib.contextmanager
+def naming(path: Path) -> Iterator[None]:
+    """Has an error of the system name this file, unless it names one."""
+    try:
+        yield
+    except OSError as error:
+        if error.errno is not None and error.filename is None:
+            error.filename = str(path)
+        raise
+
+
 class Rows(NamedTuple):
     """What the save of a recording also has: how many rows the file of rows had, and the CRC-32 of these."""
 
@@ -83,7 +94,7 @@ def write(path: str | os.PathLike[str], saved: Saved, rows: Optional[Rows] = Non
     unique = "" if rows else f".{os.urandom(8).hex()}"
     beside = path.with_name(f"{path.name}{unique}.part")
     try:
-        with open(beside, "wb" if rows else "xb") as file:
+        with naming(beside), open(beside, "wb" if rows else "xb") as file:
             file.write(content.getbuffer())
             file.flush()
             os.fsync(file.fileno())

@@ -14,6 +14,7 @@ compared with its CRC-32: a file that lacks some, or has others, is refused.
 from __future__ import annotations
 
 import contextlib
+import errno
 import fcntl
 import os
 import time
@@ -43,7 +44,7 @@ def record(run: Drive, n: int, rows: Path, save: Path, every: float, progress: b
     """Drops grains until the file has `n` rows. The caller holds the run's lock for drops."""
     if not save.exists():
         run._check_grains(n)  # before a file is made
-    with contextlib.closing(_Recording(run, rows, save)) as recording:
+    with _saves.naming(rows), contextlib.closing(_Recording(run, rows, save)) as recording:
         recording.begin(n)
         if progress:
             with Bar(n) as bar:
@@ -136,12 +137,21 @@ class _Recording:
     def _make(self, n: int, every: float, show: Optional[Callable[[int], None]]) -> None:
         begun = time.monotonic()
         while self._now.rows < n:
+            self._check_name()
             self._append(self._run._next_block(n - self._now.rows))
             if time.monotonic() - begun >= every:
                 self._keep()
                 begun = time.monotonic()
             if show:
                 show(self._now.rows)
+
+    def _check_name(self) -> None:
+        """Ends a recording whose rows would be lost, since the file has no longer its name."""
+        with contextlib.suppress(FileNotFoundError):
+            if os.path.samestat(os.stat(self._rows), os.fstat(self._file.fileno())):
+                return
+        said = "the file of rows was removed or replaced while rows were recorded; put it back, or give other names"
+        raise FileNotFoundError(errno.ENOENT, said, str(self._rows))
 
     def _append(self, table: NDArray[np.void]) -> None:
         """Writes rows after those that count so far, over what may be there. Only then they count, too."""
@@ -162,6 +172,7 @@ class _Recording:
         """Saves the run, whose rows all count, unless the save has them."""
         now = self._now
         if now != self._kept:
+            self._check_name()
             os.fsync(self._file.fileno())
             _saves.write(self._save, self._run._saved()[0], now)
             self._kept = now

@@ -2,6 +2,7 @@
 are refused."""
 
 import contextlib
+import errno
 import io
 import itertools
 import os
@@ -316,6 +317,41 @@ run.record(int(sys.argv[1]), "rows.bin", "run.npz", every=float(sys.argv[2]))
 """
 
 
+class Gone(InFolder):
+    """A file that loses its name while rows are recorded to it."""
+
+    def ends(self, act, at=3):
+        """A recording ends before the grains drop of the block after the one in which something was done."""
+        run, blocks = new_run(drops_in_block=20), []
+
+        def come(*words):
+            blocks.append(drop(*words))
+            if len(blocks) == at:
+                act()
+            return blocks[-1]
+
+        drop = _library.library.sandpile_drive_drop
+        with mock.patch.object(_library.library, "sandpile_drive_drop", come):
+            with self.assertRaisesRegex(FileNotFoundError, "was removed or replaced while rows were recorded.*'rows.bin'"):
+                run.record(150, *FILES, every=3600)
+        self.assertEqual((len(blocks), run.drops, sandpile.Drive.load(FILES[1]).drops), (at, 7 + min(20 * at, 150), 7))
+
+    def test_removed(self):
+        self.ends(lambda: os.remove(FILES[0]))
+        self.assertRaisesRegex(ValueError, "its file of rows, does not", new_run().record, 150, *FILES)
+
+    def test_renamed_and_put_back(self):
+        self.ends(lambda: os.rename(FILES[0], "other"))
+        os.rename("other", FILES[0])
+        self.check(150)
+
+    def test_replaced(self):
+        self.ends(lambda: Path("other").write_bytes(b"") or os.replace("other", FILES[0]))
+
+    def test_removed_in_the_last_block(self):
+        self.ends(lambda: os.remove(FILES[0]), at=8)
+
+
 class OtherProcesses(InFolder):
     def start(self, n, every):
         words = [sys.executable, "-c", RECORDING, str(n), str(every)]
@@ -482,6 +518,16 @@ class NoRoom(InFolder):
             self.said(FULL_DISK),
             "File too large 100\nFile too large 180\nTrue ['rows.bin', 'run.npz']\n",
         )
+
+    def test_the_error_names_the_file(self):
+        self.assertRaisesRegex(OSError, "'/dev/full'$", new_run().record, 100, "/dev/full", "run.npz")
+        for call, before, name in (("pwrite", 0, "rows.bin"), ("fsync", 1, "rows.bin"), ("fsync", 2, "run.npz.part")):
+            fails = mock.Mock(side_effect=[None] * before + [OSError(errno.ENOSPC, "No space left")])
+            with mock.patch.object(os, call, fails), self.subTest(call, before=before), self.assertRaises(OSError) as caught:
+                new_run().record(100, *FILES)
+            self.assertEqual((str(caught.exception), fails.call_count), (f"[Errno 28] No space left: '{name}'", before + 1))
+            for path in Path().iterdir():
+                path.unlink()
 
     def test_a_folder_that_is_read_only(self):
         Path("rows.bin").touch()
