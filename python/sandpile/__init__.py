@@ -64,6 +64,12 @@ __all__ = [
     "random_recurrent", "recurrent", "replicas", "settle", "show", "superstable", "toppling_matrix",
 ]
 
+
+def __dir__() -> list[str]:
+    """What a user calls, without the modules that have it."""
+    return [*__all__, *(name for name in globals() if name.startswith("__"))]
+
+
 if not TYPE_CHECKING:  # a type checker would take any name for one that there is
 
     def __getattr__(name: str) -> object:

@@ -65,6 +65,9 @@ class Replicas(Iterator[_Result]):
         """Cancels the replicas that have not begun."""
         self._results.close()
 
+    def __repr__(self) -> str:
+        return f"<Replicas: seed {self.seed}>"
+
 
 @dataclass(frozen=True)
 class _Plan:

@@ -288,6 +288,10 @@ class Part:
     def __reduce__(self) -> Any:
         raise TypeError("a part of a shared pile cannot be copied or pickled: split off another one")
 
+    def __repr__(self) -> str:
+        height, width = self._passes.shape
+        return f"<Part of a SharedPile: {height} by {width}{', joined' if self._is_joined else ''}>"
+
 
 class SharedPile:
     """A pile on which many threads drop grains at once, and topple it meanwhile, without a lock.

@@ -65,6 +65,7 @@ class Tree(Result, Pictured, Hinted):
 
     @property
     def parents(self) -> NDArray[np.int64]:
+        """To which site the edge of each site leads, by number, and ``height * width`` for the sink; shape (height, width), int64."""
         ways = self.directions.ravel()
         ends = new_array(ways.size, np.int64, "the parents of a tree")
         for some in _parts(ways.size):

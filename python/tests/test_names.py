@@ -92,6 +92,11 @@ class Names(unittest.TestCase):
                 said = " ".join(lines.split())
                 self.assertEqual(sentence[:1].upper() + sentence[1:], said[:len(sentence)])
 
+    def test_the_module_shows_what_a_user_calls(self):
+        shown = {name for name in dir(sandpile) if not name.startswith("__")}
+        self.assertEqual(shown, set(sandpile.__all__))
+        self.assertIn("__version__", dir(sandpile))
+
     def test_the_version_is_that_of_the_header_and_the_library(self):
         major, minor, patch = map(int, sandpile.__version__.split("."))
         number = 10000 * major + 100 * minor + patch

@@ -99,6 +99,13 @@ class Printed(unittest.TestCase):
             self.assertLess(len(text), 2000)
             self.assertLessEqual(max(map(len, text.splitlines())), np.get_printoptions()["linewidth"])
 
+    def test_what_has_no_values(self):
+        with sandpile.SharedPile([[0, 3]], quota=5) as pile:
+            with pile.split(2) as part:
+                self.assertEqual(repr(part), "<Part of a SharedPile: 1 by 2>")
+            self.assertEqual(repr(part), "<Part of a SharedPile: 1 by 2, joined>")
+        self.assertEqual(repr(sandpile.replicas((3, 4), 7, [1], drops=9)), "<Replicas: seed 7>")
+
     def test_an_element_can_be_evaluated(self):
         for cylinder in (False, True):
             a = sandpile.recurrent(PILE, cylinder=cylinder)
