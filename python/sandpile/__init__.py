@@ -4,9 +4,9 @@ The results are proved: libsandpile, which computes them, is written in Rattle (
 exports has a contract, from the settled pile with the least odometer to the sandpile group. This module
 checks the arguments and passes them on; it is tested, not proved.
 
-A pile is an array of shape (height, width) and any integer type; sides are from 1 to 8,192. Returned arrays are new, and of
-type int64, as are all fields of tables. No call changes its arguments. ``cylinder=True`` makes the first and the last column
-neighbours; a result or a run that is passed as a pile keeps its edge. A wrong value raises a `Fault` or another
+A pile is an array of shape (height, width) and any integer type; sides are from 1 to 8,192. Calls return new arrays of type int64,
+as are all fields of tables, or bool for masks, and do not change their arguments. ``cylinder=True`` makes the first and the last
+column neighbours; a result or a run that is passed as a pile keeps its edge. A wrong value raises a `Fault` or another
 `ValueError`, a wrong type a `TypeError`, and then nothing has changed. Calls release the global interpreter lock, so threads
 run in parallel.
 

@@ -195,7 +195,7 @@ def replicas(
     drops : int
         Grains that each replica drops.
     executor : concurrent.futures.Executor, distributed.Client, or None
-        What runs the replicas: any executor whose workers can import NumPy, such as a `ProcessPoolExecutor` or an
+        What runs the replicas: any executor whose workers can import `sandpile`, such as a `ProcessPoolExecutor` or an
         `mpi4py.futures.MPIPoolExecutor`, but no `InterpreterPoolExecutor`; or a client of Dask. It is not shut down. None is
         a thread for each processor.
     cylinder : bool, optional
