@@ -25,7 +25,7 @@ from typing import TYPE_CHECKING, Callable, Optional
 import numpy as np
 from numpy.typing import NDArray
 
-from . import _saves
+from . import _memory, _saves
 from ._arrays import Heights
 from ._library import call
 from ._saves import Rows, Saved
@@ -190,11 +190,12 @@ def _difference(run: Drive, saved: Saved) -> Optional[str]:
         if one != other:
             return f"its {name} is {other}, not {one}"
     before, after = sorted((here, saved), key=lambda each: each.drops)
-    is_on_its_way = (
-        before.start_grains == after.start_grains
-        and after.drops - before.drops == after.drawn - before.drawn
-        and np.array_equal(before.given() + _grains(before, after.drawn), after.given())
-    )
+    with _memory.room_for("the drops between a run and its save"):
+        is_on_its_way = (
+            before.start_grains == after.start_grains
+            and after.drops - before.drops == after.drawn - before.drawn
+            and np.array_equal(before.given() + _grains(before, after.drawn), after.given())
+        )
     return None if is_on_its_way else "it began on another pile, or had other drops"
 
 

@@ -442,6 +442,10 @@ class Refused(InFolder):
             run.drop(drops)
             self.refused("it began on another pile, or had other drops", run)
 
+    def test_a_lack_of_memory(self):
+        with mock.patch.object(np, "bincount", side_effect=MemoryError):
+            self.refused("^fault 4 Memory: not enough memory for the drops between a run and its save$", kind=sandpile.Fault)
+
     def test_saves_that_are_none_of_a_recording(self):
         new_run().save(FILES[1])
         self.refused("^run.npz was written by `save`, not by `record`; give another name$")
