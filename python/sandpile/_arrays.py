@@ -10,7 +10,7 @@ from typing import TYPE_CHECKING, Any, SupportsIndex
 import numpy as np
 from numpy.typing import ArrayLike, NDArray
 
-from . import _memory
+from . import _memory, faults
 from ._library import most_in_words
 from ._limits import check_sides
 from ._places import warn_of_pair
@@ -20,7 +20,6 @@ from .faults import Fault, ShapeError
 # The library reads and writes the same 8 bytes without a sign. All that it returns is below 2**54.
 Heights = NDArray[np.int64]
 
-_TOO_MANY_GRAINS, _SHAPES, _NOT_TREE = 3, 9, 28
 _COPY = "a copy of the heights"
 _BOOLS = {bool, np.bool_}
 # NumPy before 1.24 makes an array of lists of them, with a warning.
@@ -148,12 +147,12 @@ def _listed(values: Any) -> Any:
 def edge_of(edges: set[bool], cylinder: bool | None) -> bool:
     """The only one of the edges that piles have, which must not contradict `cylinder`."""
     if len(edges) > 1:
-        raise Fault(_SHAPES, "the piles have different edges")
+        raise Fault(faults.SHAPES, "the piles have different edges")
     if cylinder is None:
         return any(edges)
     edge = checked_edge(cylinder)
     if edges - {edge}:
-        raise Fault(_SHAPES, f"the pile has another edge than cylinder={cylinder}")
+        raise Fault(faults.SHAPES, f"the pile has another edge than cylinder={cylinder}")
     return edge
 
 
@@ -202,9 +201,9 @@ def _check_bits(array: NDArray[Any]) -> None:
     """Raises a fault for heights that int64 does not have."""
     most = most_in_words(*array.shape[-2:])
     if array.max() >= 2**63:
-        raise Fault(_TOO_MANY_GRAINS, f"the height in {_first(array, array >= 2**63)}, over {most}")
+        raise Fault(faults.TOO_MANY_GRAINS, f"the height in {_first(array, array >= 2**63)}, over {most}")
     if array.dtype.kind == "O" and array.min() < -(2**63):
-        raise Fault(_TOO_MANY_GRAINS, f"the height in {_first(array, array < -(2**63))}, below -{most}")
+        raise Fault(faults.TOO_MANY_GRAINS, f"the height in {_first(array, array < -(2**63))}, below -{most}")
 
 
 def _first(array: NDArray[Any], which: NDArray[np.bool_]) -> str:
@@ -235,7 +234,7 @@ def directions_of(directions: ArrayLike) -> NDArray[np.uint8]:
     wrong = (array < 0) | (array > 3)
     if wrong.any():
         by_name = "; parents are passed by name, parents=.."
-        raise Fault(_NOT_TREE, f"directions must be from 0 to 3, but the one in {_first(array, wrong)}{by_name}")
+        raise Fault(faults.NOT_TREE, f"directions must be from 0 to 3, but the one in {_first(array, wrong)}{by_name}")
     return np.array(array, dtype=np.uint8, order="C")
 
 
@@ -264,7 +263,7 @@ def sites_of(sites: ArrayLike, count: int) -> NDArray[np.int64]:
     array = np.atleast_1d(array)
     if array.size and not (array.min() >= 0 and array.max() < count):
         at = np.flatnonzero((array < 0) | (array >= count))[0]
-        raise Fault(25, f"drop {at} is at site {array[at]}, but the grid has only sites 0 to {count - 1}")
+        raise Fault(faults.NO_SITE, f"drop {at} is at site {array[at]}, but the grid has only sites 0 to {count - 1}")
     return np.array(array, dtype=np.int64, order="C")
 
 
@@ -305,7 +304,7 @@ def site_at(
             raise TypeError(f"site must be an integer, not {site!r}; a row and a column are passed by name")
         at = index_of(site, "site")
         if not 0 <= at < height * width:
-            raise Fault(25, f"{what} is at site {at}, but the grid has only sites 0 to {height * width - 1}")
+            raise Fault(faults.NO_SITE, f"{what} is at site {at}, but the grid has only sites 0 to {height * width - 1}")
         return at
     if site is not None:
         raise TypeError("a site is either a number, or a row and a column")
@@ -328,10 +327,10 @@ def index_of(value: Any, what: str) -> int:
 def _outside(what: str, row: int, column: int, shape: tuple[int, ...]) -> Fault:
     height, width = shape
     only = f"only rows 0 to {height - 1} and columns 0 to {width - 1}"
-    return Fault(25, f"{what} is at row {row}, column {column}, but the grid has {only}")
+    return Fault(faults.NO_SITE, f"{what} is at row {row}, column {column}, but the grid has {only}")
 
 
-def count_of(number: SupportsIndex, what: str, most: int = 2**64 - 1, fault: int = 15, least: int = 0) -> int:
+def count_of(number: SupportsIndex, what: str, most: int = 2**64 - 1, fault: int = faults.PLAN, least: int = 0) -> int:
     """A Python or NumPy number, which must be an integer from `least` to `most`; outside, it is this fault."""
     value = index_of(number, what)
     if not least <= value <= most:
@@ -339,7 +338,7 @@ def count_of(number: SupportsIndex, what: str, most: int = 2**64 - 1, fault: int
     return value
 
 
-def seed_of(seed: SupportsIndex | np.random.SeedSequence | None, bits: int = 64, fault: int = 15) -> int:
+def seed_of(seed: SupportsIndex | np.random.SeedSequence | None, bits: int = 64, fault: int = faults.PLAN) -> int:
     """A seed of 64 or 32 bits: the first number that a sequence generates, and without a seed one of fresh entropy."""
     if seed is None:
         seed = np.random.SeedSequence()

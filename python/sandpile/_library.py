@@ -10,7 +10,7 @@ from typing import Any
 
 import numpy as np
 
-from . import _memory, _processor
+from . import _memory, _processor, faults
 from .faults import Fault
 
 _NAME = "libsandpile.so.1"
@@ -67,7 +67,6 @@ _BYTES_A_SITE = {
     "settle": 74, "burn": 30, "burn_times": 30, "tree": 32, "of_tree": 24, "random": 20, "identity": 64, "recurrent": 104,
     "add": 90, "inverse": 90, "multiple": 104, "class": 144, "superstable": 144, "drive_new": 42, "shared_new": 44,
 }
-_TOO_MANY_GRAINS = 3
 
 
 def _places() -> list[str]:
@@ -127,9 +126,9 @@ def call(name: str, shape: tuple[int, ...], cylinder: bool, *arguments: Any) -> 
     try:
         call_on(name, width, height, cylinder, *arguments)
     except Fault as fault:
-        if fault.number != _TOO_MANY_GRAINS:
+        if fault.number != faults.TOO_MANY_GRAINS:
             raise
-        raise Fault(_TOO_MANY_GRAINS, f"the pile has more than {most_in_words(height, width)}") from None
+        raise Fault(faults.TOO_MANY_GRAINS, f"the pile has more than {most_in_words(height, width)}") from None
 
 
 @functools.lru_cache

@@ -2,10 +2,9 @@
 
 from __future__ import annotations
 
-from .faults import Fault
+from .faults import SIDE, Fault
 
 MOST_SIDE = 8192
-_SIDE = 1
 
 
 def check_sides(shape: tuple[int, ...], most: int = MOST_SIDE, who: str = "a grid has") -> None:
@@ -13,4 +12,4 @@ def check_sides(shape: tuple[int, ...], most: int = MOST_SIDE, who: str = "a gri
     for length, name in zip(shape, ("row", "column")):
         if not 1 <= length <= most:
             limit = f"at most {most:,}" if length > most else "at least 1"
-            raise Fault(_SIDE, f"{length:,} {name}s; {who} {limit}")
+            raise Fault(SIDE, f"{length:,} {name}s; {who} {limit}")

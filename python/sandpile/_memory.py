@@ -6,9 +6,8 @@ import contextlib
 import os
 from collections.abc import Iterator
 
-from .faults import Fault, OutOfMemory
+from .faults import MEMORY, Fault, OutOfMemory
 
-_MEMORY = 4
 # So many bytes are not asked for, since that would take longer than most calls.
 _FEW_BYTES = 1 << 26
 
@@ -25,12 +24,12 @@ def available() -> int:
 def check(size: int, what: str) -> None:
     """Raises the fault Memory if fewer bytes are available."""
     if size > _FEW_BYTES and size > (there := available()):
-        raise Fault(_MEMORY, f"not enough memory for {what}: {_shown(size)} needed, {_shown(there)} available")
+        raise Fault(MEMORY, f"not enough memory for {what}: {_shown(size)} needed, {_shown(there)} available")
 
 
 def lack(what: str, size: int = 0) -> Fault:
     """The fault Memory for an allocation that failed, although so many bytes seemed to be available."""
-    return Fault(_MEMORY, f"not enough memory for {what}" + (f": {_shown(size)} needed" if size > _FEW_BYTES else ""))
+    return Fault(MEMORY, f"not enough memory for {what}" + (f": {_shown(size)} needed" if size > _FEW_BYTES else ""))
 
 
 @contextlib.contextmanager

@@ -18,12 +18,11 @@ from numpy.typing import NDArray
 from . import _memory
 from ._arrays import Heights, count_of, heights_of
 from ._limits import MOST_SIDE
-from .faults import Fault
+from .faults import MEMORY, Fault
 from .settling import settle
 
 # A save is shorter than its arrays, and each array in it than this.
 _MOST_BYTES = 8 * MOST_SIDE**2 + (1 << 16)
-_MEMORY = 4
 _UNSIGNED = ("seed", "stream")
 # NumPy gives them no types.
 _read_magic: Any = _format.read_magic
@@ -130,7 +129,7 @@ def read(path: str | os.PathLike[str]) -> tuple[Saved, Optional[Rows]]:
         rows = {name: _number(arrays.pop(name), name) for name in Rows._fields if name in arrays}
         return _checked(arrays), Rows(**rows) if rows else None
     except MemoryError:
-        raise Fault(_MEMORY) from None
+        raise Fault(MEMORY) from None
     except Exception as error:  # of a damaged file, zipfile and NumPy raise many kinds
         raise ValueError(f"{path} is not a saved run, or is damaged: {error}") from None
 

@@ -16,7 +16,7 @@ from typing import Any, Callable, ContextManager, Iterator, Literal, NamedTuple,
 import numpy as np
 from numpy.typing import ArrayLike, NDArray
 
-from . import _hints, _saves, recording, waves as _waves
+from . import _hints, _saves, faults, recording, waves as _waves
 from ._arrays import HasPile, Heights, count_of, heights_and_edge, new_array, seed_of, site_at, sites_at
 from ._handles import DriveHandle
 from ._library import call, call_at, most_grains, most_in_words
@@ -759,7 +759,7 @@ class Drive(HasPile, _hints.Hinted):
     def _check_grains(self, n: int) -> None:
         """Refuses `n` more drops if they exceed the limit of grains."""
         if self._start_grains + self._asked.first + self._asked.made + n > most_grains(*self._shape):
-            raise Fault(6, f"the pile and its drops together exceed {most_in_words(*self._shape)}")
+            raise Fault(faults.FULL, f"the pile and its drops together exceed {most_in_words(*self._shape)}")
 
     def _draw(self, begin: int, end: int) -> int:
         """The address of the sites of the stream at which a call makes its drops from one up to another."""
@@ -936,7 +936,7 @@ class Drive(HasPile, _hints.Hinted):
         if at.resolve() == beside.resolve():
             raise ValueError(f"the rows and the save must be two files, but both are {at}")
         if not every >= 0:
-            raise Fault(15, f"every is {every}, but must be 0 or more")
+            raise Fault(faults.PLAN, f"every is {every}, but must be 0 or more")
         with self._handle.dropping():
             recording.record(self, count, at, beside, every, progress)
         return np.memmap(at, AVALANCHE, "r", shape=(count,)) if count else _NO_ROWS

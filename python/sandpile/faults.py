@@ -29,7 +29,10 @@ _FAULTS = {
     28: ("NotTree", "the directions are not a spanning tree"),
 }
 
-_MEMORY = 4
+# The numbers of those that this module raises itself, or treats in its own way.
+SIDE, TOO_MANY_GRAINS, MEMORY, FULL, NOT_RECURRENT, SHAPES = 1, 3, 4, 6, 8, 9
+ROWS, APART, MISSING, PLAN, USAGE, NO_SITE = 11, 12, 14, 15, 23, 25
+EMPTY, OTHER_PILE, NOT_TREE = 26, 27, 28
 
 
 class Fault(ValueError):
@@ -56,7 +59,7 @@ class Fault(ValueError):
     """
 
     def __new__(cls, number: int, sentence: str | None = None, name: str | None = None) -> Fault:
-        if cls is Fault and number == _MEMORY:
+        if cls is Fault and number == MEMORY:
             return super().__new__(OutOfMemory)
         return super().__new__(cls)
 

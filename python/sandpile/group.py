@@ -11,6 +11,7 @@ from typing import TYPE_CHECKING, Any, Iterator, Literal, Sequence, SupportsInde
 import numpy as np
 from numpy.typing import ArrayLike, NDArray
 
+from . import faults
 from ._arrays import (
     HasPile, Heights, checked_edge, directions_of, edge_of, heights_and_edge, index_of, new_array, shape_of, site_at,
 )
@@ -99,9 +100,9 @@ class Recurrent(HasPile, Hinted):
         heights, edge = heights_and_edge(pile, cylinder, may_be_stack=True)
         if heights.ndim == 3:
             for number in np.flatnonzero(~burned_stack(heights, edge).is_recurrent)[:1]:
-                raise Fault(8, f"pile {number} of the stack is not recurrent: some of its sites form a forbidden set")
+                raise Fault(faults.NOT_RECURRENT, f"pile {number} of the stack is not recurrent: some of its sites form a forbidden set")
         elif not burned(heights, edge).is_recurrent:
-            raise Fault(8)
+            raise Fault(faults.NOT_RECURRENT)
         self._keep(heights, edge)
 
     def _keep(self, heights: Heights, cylinder: bool) -> None:
@@ -295,7 +296,7 @@ class Recurrent(HasPile, Hinted):
             return self._made("add", other._pile)
         counts = [len(_piles(a._pile)) for a in (self, other) if a._pile.ndim == 3]
         if min(counts) != max(counts):
-            raise Fault(9, f"one stack has {counts[0]} piles, but the other {counts[1]}")
+            raise Fault(faults.SHAPES, f"one stack has {counts[0]} piles, but the other {counts[1]}")
         shape = (*counts[:1], *self.shape)
         with room_for("the heights of a stack"):
             heights, others = (np.array(np.broadcast_to(a._pile, shape), order="C") for a in (self, other))
@@ -323,7 +324,7 @@ class Recurrent(HasPile, Hinted):
             _refuse_array(other)
             return NotImplemented
         if not self._is_beside(other):
-            raise Fault(9)
+            raise Fault(faults.SHAPES)
         return self._sum(other)
 
     def __radd__(self, other: int) -> Recurrent:

@@ -17,13 +17,12 @@ from numpy.typing import ArrayLike, NDArray
 from ._arrays import HasPile, Heights, heights_and_edge, index_of, listed, seed_of
 from ._limits import check_sides
 from ._results import Result
-from .faults import Fault
+from .faults import USAGE, Fault
 
 _CHECKOUT = Path(__file__).resolve().parents[2] / "crates" / "sandpile" / "out" / "sandpile"
 # pip puts the program into bin/, next to sandpile/ if it has a --target, else next to lib/python3.N/site-packages/sandpile/.
 _ABOVE = list(Path(__file__).parents)
 _INSTALLED = [folder / "bin" for folder in _ABOVE[1:2] + _ABOVE[4:5]]
-_USAGE = 23
 # A pile is passed as a text.
 _MOST_SIDE = 256
 # docs/FORMATS.md describes it.
@@ -89,7 +88,7 @@ def _error_of(ended: subprocess.CompletedProcess[str]) -> Exception:
     if ended.returncode == 1 and fault:
         return Fault(int(fault[1]), name=fault[2])
     if ended.returncode == 2:
-        return Fault(_USAGE, said.partition("\n")[0].removeprefix("error: "))
+        return Fault(USAGE, said.partition("\n")[0].removeprefix("error: "))
     return RuntimeError(f"the program sandpile {_end_of(ended.returncode)}; on standard error: {said or 'nothing'}")
 
 
@@ -194,7 +193,7 @@ def lab(
     >>> run.epochs["lost"], run.odometer
     (array([4, 8]), array([[3]]))
     """
-    (heights, edge), number = heights_and_edge(pile, cylinder), seed_of(seed, bits=32, fault=_USAGE)
+    (heights, edge), number = heights_and_edge(pile, cylinder), seed_of(seed, bits=32, fault=USAGE)
     options = dict(
         seed=number, droppers=droppers, drops=drops, epochs=epochs, workers=workers, sweeps=sweeps, observers=observers
     )

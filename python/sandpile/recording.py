@@ -29,13 +29,12 @@ from . import _memory, _saves
 from ._arrays import Heights
 from ._library import call
 from ._saves import Rows, Saved
-from .faults import Fault
+from .faults import PLAN, Fault
 from .progress import Bar
 
 if TYPE_CHECKING:
     from .driving import Drive
 
-_PLAN = 15
 # So many bytes of the file are read at once, and so many random sites are drawn, or as many as the grid has.
 _BYTES_AT_ONCE, _SITES_AT_ONCE = 1 << 20, 1 << 16
 
@@ -101,7 +100,7 @@ class _Recording:
         if difference := _difference(self._run, saved):
             raise ValueError(f"{self._save} is of another run: {difference}")
         if n < kept.rows:
-            raise Fault(_PLAN, f"n is {n}, but {self._rows} has {kept.rows} rows of this run already")
+            raise Fault(PLAN, f"n is {n}, but {self._rows} has {kept.rows} rows of this run already")
         self._compare(kept)
         self._run._check_grains(saved.drops - self._run.drops + n - kept.rows)
         self._run._go_to(saved)

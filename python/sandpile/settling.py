@@ -19,9 +19,8 @@ from ._arrays import HasPile, Heights, heights_and_edge, new_array, shape_of
 from ._hints import OF_SETTLED, Hinted
 from ._library import call, most_grains, most_in_words
 from ._results import Result
-from .faults import Fault
+from .faults import TOO_MANY_GRAINS, Fault
 
-_TOO_MANY_GRAINS = 3
 # A call of the library settles piles with so many sites together, or one pile. Ctrl-C waits for its end.
 _SITES_AT_ONCE = 1 << 16
 
@@ -132,13 +131,13 @@ def _settled_stack(heights: Heights, edge: bool) -> Settled:
 def _of_stack(fault: Fault, piles: Heights, begin: int) -> Fault:
     """The fault of some piles of a stack, from this one on. One of too many grains names the first pile that has them; those
     before it may be settled."""
-    if fault.number != _TOO_MANY_GRAINS:
+    if fault.number != TOO_MANY_GRAINS:
         return fault
     shape = piles.shape[1:]
     most = most_grains(*shape)
     grains = np.minimum(piles.view(np.uint64), most + 1).sum(axis=(1, 2))
     first = begin + int((grains > most).argmax())
-    return Fault(_TOO_MANY_GRAINS, f"pile {first} of the stack has more than {most_in_words(*shape)}")
+    return Fault(TOO_MANY_GRAINS, f"pile {first} of the stack has more than {most_in_words(*shape)}")
 
 
 def grain_limit(shape: Sequence[SupportsIndex]) -> int:

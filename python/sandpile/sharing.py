@@ -17,7 +17,7 @@ from typing import Any, SupportsIndex
 import numpy as np
 from numpy.typing import ArrayLike, NDArray
 
-from . import _memory
+from . import _memory, faults
 from ._arrays import Heights, count_of, heights_and_edge, new_array, sites_at
 from ._handles import PassHandle
 from ._library import call, call_on, most_in_words
@@ -26,7 +26,6 @@ from ._places import by_name
 from .faults import Fault
 from .settling import Settled
 
-_TOO_MANY_GRAINS, _TOO_MANY_ROWS, _APART, _MISSING, _EMPTY, _OTHER_PILE = 3, 11, 12, 14, 26, 27
 _BYTES_OF_A_DROP = 16
 # The struct of include/sandpile.h.
 _HOLDING = np.dtype(
@@ -69,9 +68,9 @@ class _Passes:
         try:
             call("shared_new", heights.shape, cylinder, heights, quota, self._first.at)
         except Fault as fault:
-            if fault.number != _TOO_MANY_GRAINS:
+            if fault.number != faults.TOO_MANY_GRAINS:
                 raise
-            raise Fault(_TOO_MANY_GRAINS, f"the pile and its quota together exceed {most_in_words(*heights.shape)}") from None
+            raise Fault(faults.TOO_MANY_GRAINS, f"the pile and its quota together exceed {most_in_words(*heights.shape)}") from None
         call_on("pass_split", self._first.at, 0, self._observer.at)
 
     def check(self) -> None:
@@ -117,9 +116,9 @@ class _Passes:
         try:
             call_on("pass_join", self._first.at, part.at)
         except Fault as fault:
-            if fault.number == _APART:
+            if fault.number == faults.APART:
                 return False
-            if fault.number != _EMPTY:
+            if fault.number != faults.EMPTY:
                 raise
         self._back.discard(part)
         return True
@@ -382,7 +381,7 @@ class SharedPile:
         """
         drops, swept = count_of(quota, "quota"), count_of(0 if rows is None else rows, "rows")
         if swept > MOST_SIDE:  # the library takes 16 bits
-            raise Fault(_TOO_MANY_ROWS)
+            raise Fault(faults.ROWS)
         part = Part(self._passes)
         try:
             self._passes.split(part._pass, drops, swept)
@@ -406,7 +405,7 @@ class SharedPile:
         if not isinstance(part, Part):
             raise TypeError(f"part must be a Part, not {part!r}")
         if part._passes is not self._passes:
-            raise Fault(_OTHER_PILE, "the part is of another pile")
+            raise Fault(faults.OTHER_PILE, "the part is of another pile")
         part._check()
         part._join()
 
@@ -449,10 +448,10 @@ class SharedPile:
         try:
             return self._passes.settle()
         except Fault as fault:
-            if fault.number != _MISSING:
+            if fault.number != faults.MISSING:
                 raise
             parts = len(self._passes.outside)
-            raise Fault(_MISSING, f"parts of the pile have not been joined: {parts}") from None
+            raise Fault(faults.MISSING, f"parts of the pile have not been joined: {parts}") from None
 
     def close(self) -> None:
         """Frees the pile. A part that has not been joined is of no use from then on."""

@@ -4,7 +4,7 @@ import re
 import unittest
 
 import sandpile
-from sandpile import _hints
+from sandpile import _hints, faults
 from sandpile.faults import _FAULTS
 from tools import TOP, program
 
@@ -81,6 +81,12 @@ class Names(unittest.TestCase):
             self.assertEqual(known_name, name)
             if number not in OF_BOTH:
                 self.assertEqual(meaning, sentence)
+
+    def test_numbers_have_the_names_of_their_faults(self):
+        names = {name: number for name, number in vars(faults).items() if name.isupper() and not name.startswith("_")}
+        self.assertGreater(len(names), 12)
+        for name, number in names.items():
+            self.assertEqual(_FAULTS[number][0].upper(), name.replace("_", ""))
 
     def test_faults_have_the_names_and_sentences_of_the_program(self):
         explained = re.findall(r"^fault (\d+) (\w+).*\n((?:  .*\n)+)", program("explain"), re.M)
