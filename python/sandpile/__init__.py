@@ -39,9 +39,10 @@ Examples
 from typing import TYPE_CHECKING
 
 from . import _hints
+from ._dropping import AVALANCHE
 from .animation import animate
 from .burning import Burned, burn
-from .driving import AVALANCHE, Drive
+from .driving import Drive
 from .faults import Fault
 from .group import Recurrent, identity, recurrent
 from .laboratory import EPOCH, Run, lab

@@ -252,7 +252,7 @@ def check_parents(parents: NDArray[Any], wrong: NDArray[np.bool_]) -> None:
     """Raises a fault for parents of which some are wrong."""
     if wrong.any():
         must = f"a parent must be a neighbour, or {parents.size} for the sink beyond the edge"
-        raise Fault(_NOT_TREE, f"{must}, but the one in {_first(parents, wrong)}")
+        raise Fault(faults.NOT_TREE, f"{must}, but the one in {_first(parents, wrong)}")
 
 
 def sites_of(sites: ArrayLike, count: int) -> NDArray[np.int64]:

@@ -18,11 +18,12 @@ import numpy as np
 from numpy.typing import NDArray
 
 from ._arrays import Heights, count_of, index_of, listed
+from ._dropping import AVALANCHE
 from ._png import COLOURS, RED
 from ._reading import read
 from ._server import Answer, Request, Route
 from .burning import burn
-from .driving import AVALANCHE, Drive
+from .driving import Drive
 from .group import Recurrent, identity
 from .stationary import random_recurrent
 

@@ -8,126 +8,20 @@ from __future__ import annotations
 
 import ctypes
 import os
-import time
-from contextlib import nullcontext
 from pathlib import Path
-from typing import Any, Callable, ContextManager, Iterator, Literal, NamedTuple, Optional, SupportsIndex, Tuple, overload
+from typing import Any, Iterator, Literal, SupportsIndex, overload
 
 import numpy as np
 from numpy.typing import ArrayLike, NDArray
 
 from . import _hints, _saves, faults, recording, waves as _waves
 from ._arrays import HasPile, Heights, count_of, heights_and_edge, new_array, seed_of, site_at, sites_at
-from ._handles import DriveHandle
-from ._library import call, call_at, most_grains, most_in_words
+from ._dropping import AVALANCHE, NO_HEIGHTS, NO_ROWS, OF_THIS_PROCESS, Check, Dropping, Sites, State, listed
 from ._places import by_name
 from .faults import Fault
-from .progress import Bar
-from .waves import WaveList, most_waves
-
-# A block of drops, which Ctrl-C cannot interrupt, has at most so many drops, and should take so many seconds.
-_MOST_IN_BLOCK, _SECONDS_IN_BLOCK = 8192, 0.05
-# A toppling takes a few nanoseconds.
-_SECONDS_A_TOPPLING = 4e-9
-# A block of drops may have at most so many waves, if they are wanted, so that the room for them stays in the cache.
-_WAVES_IN_BLOCK = 1 << 16
-# If fewer are wanted, so many random sites are drawn, and so much room for avalanches is kept from one call to the next.
-_FEW = 256
-# So few rows of a table are filled faster one by one.
-_ROW_BY_ROW = 4
-
-# The struct of include/sandpile.h.
-_AVALANCHE = np.dtype([("site", np.uintp), ("size", "u8"), ("area", "u4"), ("reach", "u4"), ("lost", "u8")])
-_SITE = _AVALANCHE["site"].itemsize
-
-#: The type of the rows that `Drive.drop` returns, one for each drop.
-AVALANCHE = np.dtype([(name, "i8") for name in ("number", *(_AVALANCHE.names or ()))])
-
-_NO_ROWS = np.empty(0, AVALANCHE)
-_NO_HEIGHTS = np.empty((0, 0), np.int64)
-_COUNT = np.arange(_MOST_IN_BLOCK, dtype=np.int64)
-_NO_SITES = np.empty(0, np.int64)
-_NO_BAR: ContextManager[Optional[Bar]] = nullcontext()
-
-# What a copy of a run does not take over.
-_OF_THIS_PROCESS = {"_handle", "_before", "_asked", "_ahead", "_few", "_found", "_go_on", "_pace"}
-
-# How many drops are wanted, and the address of the sites of those from one up to another.
-_Sites = Tuple[int, Callable[[int, int], int]]
-_Ask = Callable[[], _Sites]
-# Makes drops: of which handle, the address of their sites, how many, the address of their avalanches, and how many drops of
-# the call came before.
-_Make = Callable[[int, int, int, int, int], None]
 
 
-class _State(NamedTuple):
-    """What changes as grains drop."""
-
-    drops: int  # so far
-    drawn: int  # of these, drops at sites of the stream
-    table: NDArray[np.void]  # of the last call
-
-
-class _Pace:
-    """How many drops the next block has, by the time that the last one took. The first has as many as take the time of a block if
-    no avalanche on the grid is larger than each of theirs. Nobody knows how large the next one is, so blocks grow slowly."""
-
-    def __init__(self, shape: tuple[int, ...], cylinder: bool) -> None:
-        most_topplings = shape[0] * shape[1] * most_waves(shape, cylinder)
-        self.drops = max(1, int(_SECONDS_IN_BLOCK / (most_topplings * _SECONDS_A_TOPPLING)))
-
-    def note(self, drops: int, seconds: float) -> None:
-        """Takes in that a block with so many drops has taken so long."""
-        fit = drops * _SECONDS_IN_BLOCK / max(seconds, 1e-9)
-        self.drops = max(1, int(min(fit, max(self.drops, 1.5 * drops + 1))))
-
-
-class _Asked:
-    """The drops of a call, and how many of them are known to be made: so many rows of the table are filled."""
-
-    def __init__(self, first: int, drawn: int, draws: bool, table: NDArray[np.void], made: int = 0) -> None:
-        self.first, self.drawn = first, drawn  # drops before this call, and how many of them were at sites of the stream
-        self.draws, self.table, self.made = draws, table, made
-        self._part = table  # its rows that are filled, the same array at each look
-
-    def state(self) -> _State:
-        if len(self._part) != self.made:
-            self._part = self.table if self.made == len(self.table) else self.table[: self.made]
-        return _State(self.first + self.made, self.drawn + self.made * self.draws, self._part)
-
-    def fill(self, made: int, found: NDArray[np.void]) -> None:
-        """Fills the rows up to one with the avalanches that the library has found last. Ctrl-C can come at any time."""
-        begin, first = self.made, self.first + self.made
-        if made - begin > _ROW_BY_ROW:
-            _fill_columns(self.table[begin:made], first, found)
-        else:
-            for at in range(made - begin):
-                self.table[begin + at] = (first + at, *found.item(at))
-        self.made = made
-
-
-def _fill_columns(rows: NDArray[np.void], first: int, found: NDArray[np.void]) -> None:
-    rows["number"] = _COUNT[: len(rows)] + first
-    for name in found.dtype.names or ():
-        rows[name] = found[name][: len(rows)]
-
-
-def _drop(at: int, sites: int, n: int, found: int, _: int) -> None:
-    call_at("sandpile_drive_drop", at, sites, n, found, n)
-
-
-def _room(n: int) -> tuple[NDArray[np.void], int]:
-    """Room for the avalanches of `n` drops, and its address, which NumPy is slow to tell."""
-    room = new_array(n, _AVALANCHE, f"the avalanches of {n} drops")
-    return room, room.ctypes.data
-
-
-def _listed(sites: NDArray[np.int64]) -> _Sites:
-    at = sites.ctypes.data
-    return sites.size, lambda begin, _: at + begin * sites.itemsize
-
-
-class Drive(HasPile, _hints.Hinted):
+class Drive(Dropping, HasPile, _hints.Hinted):
     """A pile on which grains drop one by one, at random or given sites. Each settles before the next. A run can be passed
     as a pile.
 
@@ -200,35 +94,7 @@ class Drive(HasPile, _hints.Hinted):
         heights, self._cylinder = heights_and_edge(pile, cylinder)
         self._seed, self._stream = seed_of(seed), count_of(stream, "stream")
         self._start_grains = int(heights.sum())
-        self._hold(heights, _State(0, 0, _NO_ROWS))
-
-    def _hold(self, given: Heights, state: _State) -> None:
-        """Makes the library hold a pile that was given these grains, in all drops so far and in those of the table."""
-        self._handle, self._shape = DriveHandle(given, self._cylinder), given.shape
-        self._most, self._pace = _MOST_IN_BLOCK, _Pace(given.shape, self._cylinder)  # drops in a block
-        self._ahead = (0, _NO_SITES, 0)  # a place in the stream, the sites from there on, and their address
-        self._few = self._found = _room(_FEW)  # the avalanches of the last block, and their address
-        self._go_on: Optional[Callable[[], None]] = None  # called before each block; may raise an error
-        self._continue(state)
-
-    def _continue(self, state: _State) -> None:
-        """Takes up a state, of which the handle has made no drops."""
-        rows = len(state.table)
-        self._before = state.drops
-        self._asked = _Asked(state.drops - rows, state.drawn, False, state.table, rows)
-
-    def _current(self) -> _State:
-        with self._handle.use:
-            asked = self._asked
-            return asked.state() if asked.made == len(asked.table) else self._read()[2]
-
-    def _read(self, pile: Heights = _NO_HEIGHTS, odometer: Heights = _NO_HEIGHTS) -> tuple[int, int, _State]:
-        """Writes the pile and the odometer, unless they are empty, as of one time. Returns the topplings, the lost grains and the
-        state. The library tells how many drops are made, if Ctrl-C came before that was noted here."""
-        with self._handle.use:
-            topplings, lost, drops = self._handle.read(pile, odometer)
-            self._asked.fill(self._before + drops - self._asked.first, self._found[0])
-            return topplings, lost, self._asked.state()
+        self._hold(heights, State(0, 0, NO_ROWS))
 
     @property
     def pile(self) -> Heights:
@@ -403,42 +269,7 @@ class Drive(HasPile, _hints.Hinted):
         >>> sizes["number"], sizes["wave"], sizes["size"]
         (array([0, 4]), array([0, 0]), array([1, 1]))
         """
-        return self._drop_all(lambda: (count_of(n, "n"), self._draw), True, progress, odometers, waves)
-
-    def _drop_all(self, ask: _Ask, draws: bool, progress: bool, odometers: bool, waves: bool) -> Any:
-        if odometers and waves:
-            raise TypeError("a drop returns odometers or waves; a copy of the run makes the same drops again")
-        if odometers:
-            return self._with_odometers(ask, draws, progress)
-        return self._with_waves(ask, draws, progress) if waves else self._drop(ask, draws, progress)
-
-    def _with_waves(self, ask: _Ask, draws: bool, progress: bool = False) -> tuple[NDArray[np.void], NDArray[np.void]]:
-        each = most_waves(self._shape, self._cylinder)
-        found, most = WaveList(each), min(self._most, _WAVES_IN_BLOCK // each)
-
-        def make(at: int, sites: int, n: int, avalanches: int, _: int) -> None:
-            call_at("sandpile_drive_waves", at, sites, n, avalanches, n, *found.room(n))
-            found.keep()
-
-        return self._drop(ask, draws, progress, make, most), found.all(self._before)
-
-    def _with_odometers(self, ask: _Ask, draws: bool, progress: bool = False) -> tuple[NDArray[np.void], Heights]:
-        topplings: Heights = _NO_HEIGHTS
-        first, counts = 0, self._shape[0] * self._shape[1]
-
-        def asked() -> _Sites:
-            nonlocal topplings, first
-            drops, sites = ask()
-            self._check_grains(drops)
-            topplings = new_array((drops, *self._shape), np.int64, f"the topplings of {drops} drops")
-            first = topplings.ctypes.data
-            return drops, sites
-
-        def make(at: int, sites: int, _: int, found: int, begin: int) -> None:
-            site, to = ctypes.c_int64.from_address(sites).value, first + begin * counts * topplings.itemsize
-            call_at("sandpile_drive_avalanche", at, site, found, to, counts)
-
-        return self._drop(asked, draws, progress, make, most=1), topplings
+        return self._drop_with(lambda: (count_of(n, "n"), self._draw), True, progress, odometers, waves)
 
     @overload
     def blocks(
@@ -577,14 +408,14 @@ class Drive(HasPile, _hints.Hinted):
                [[0, 0, 0]]])
         """
 
-        return self._drop_all(lambda: _listed(sites_at(sites, rows, columns, self._shape)), False, False, odometers, waves)
+        return self._drop_with(lambda: listed(sites_at(sites, rows, columns, self._shape)), False, False, odometers, waves)
 
-    def _at(self, site: Any, row: Any, column: Any) -> tuple[_Ask, bool]:
+    def _at(self, site: Any, row: Any, column: Any) -> tuple[Check, bool]:
         """One drop at a site, or at the next random one if none is given, and whether it is random."""
         if site is None and row is None and column is None:
             return lambda: (1, self._draw), True
 
-        def one() -> _Sites:
+        def one() -> Sites:
             place = ctypes.c_int64(site_at(site, row, column, self._shape))
             return 1, lambda _, __: ctypes.addressof(place)
 
@@ -692,89 +523,23 @@ class Drive(HasPile, _hints.Hinted):
                [False,  True, False],
                [False, False, False]])
         """
-        ask, draws = self._at(site, row, column)
-        before: Heights = _NO_HEIGHTS
+        check, draws = self._at(site, row, column)
+        before: Heights = NO_HEIGHTS
 
-        def asked() -> _Sites:
+        def check_and_look() -> Sites:
             nonlocal before
-            wanted = ask()
+            sites = check()
             before = self.pile
-            return wanted
+            return sites
 
-        table, found = self._with_waves(asked, draws)
+        table, found = self._with_waves(check_and_look, draws)
         sizes = found["size"].copy()
         return table[0], sizes, _waves.masks(before, int(table["site"][0]), self._cylinder, sizes)
-
-    def _drop(
-        self, ask: _Ask, draws: bool, progress: bool = False, make: _Make = _drop, most: int | None = None
-    ) -> NDArray[np.void]:
-        """Makes the drops that `ask` returns when it has checked the arguments, in blocks of at most `most` if it is given."""
-        with self._handle.dropping():
-            return self._make_all(ask, draws, progress, make, most or self._most)
-
-    def _next_block(self, most: int) -> NDArray[np.void]:
-        """Makes a block of at most so many drops at random sites. Only under the lock for drops."""
-        return self._make_all(lambda: (min(most, self._most, self._pace.drops), self._draw), True, False, _drop, self._most)
-
-    def _make_all(self, ask: _Ask, draws: bool, progress: bool, make: _Make, most: int) -> NDArray[np.void]:
-        sites = self._begun(ask, draws, most)
-        table, begin = self._asked.table, 0
-        with Bar(len(table)) if progress else _NO_BAR as bar:
-            while begin < len(table):
-                end = begin + min(most, self._pace.drops, len(table) - begin)
-                self._make_block(begin, end, sites, make)
-                if bar:
-                    bar.show(end)
-                begin = end
-        return table
-
-    def _make_block(self, begin: int, end: int, sites: Callable[[int, int], int], make: _Make) -> None:
-        """Makes the drops of a call from one up to another."""
-        if self._go_on:
-            self._go_on()
-        (found, at), place = self._found, sites(begin, end)
-        with self._handle.use:
-            begun = time.perf_counter()
-            make(self._handle.at, place, end - begin, at, begin)
-            self._asked.fill(end, found)
-            self._pace.note(end - begin, time.perf_counter() - begun)
-
-    def _begun(self, ask: _Ask, draws: bool, most: int) -> Callable[[int, int], int]:
-        """Makes a table for the drops that `ask` returns, and returns where their sites are. From here on, Ctrl-C leaves no row of
-        the call before; a refused call changes nothing."""
-        with self._handle.use:
-            now, was = self._current(), self._asked
-            self._asked = _Asked(now.drops, now.drawn, draws, _NO_ROWS)
-        try:
-            n, sites = ask()
-            self._check_grains(n)
-            table = new_array(n, AVALANCHE, f"a table of {n} drops")
-            self._found = self._few if min(n, most) <= _FEW else _room(min(n, most))
-            self._asked = _Asked(now.drops, now.drawn, draws, table)
-            return sites
-        except Exception:
-            self._asked = was
-            raise
-
-    def _check_grains(self, n: int) -> None:
-        """Refuses `n` more drops if they exceed the limit of grains."""
-        if self._start_grains + self._asked.first + self._asked.made + n > most_grains(*self._shape):
-            raise Fault(faults.FULL, f"the pile and its drops together exceed {most_in_words(*self._shape)}")
-
-    def _draw(self, begin: int, end: int) -> int:
-        """The address of the sites of the stream at which a call makes its drops from one up to another."""
-        (first, sites, at), drawn, n = self._ahead, self._asked.drawn + begin, end - begin
-        if not first <= drawn <= drawn + n <= first + sites.size:
-            first, sites = drawn, np.empty(max(n, _FEW), np.int64)
-            call("sites", self._shape, self._cylinder, self._seed, self._stream, first, sites)
-            at = sites.ctypes.data
-            self._ahead = first, sites, at
-        return at + (drawn - first) * _SITE
 
     def __getstate__(self) -> dict[str, Any]:
         """All but the handle, locks and rooms for the library: a copy has its own. Its handle is made of the grains that were
         given."""
-        kept = {name: value for name, value in vars(self).items() if name not in _OF_THIS_PROCESS}
+        kept = {name: value for name, value in vars(self).items() if name not in OF_THIS_PROCESS}
         saved, state = self._saved()
         return {**kept, "_state": state, "_given": saved.given()}
 
@@ -783,7 +548,7 @@ class Drive(HasPile, _hints.Hinted):
         vars(self).update(kept)
         self._hold(given, state)
 
-    def _saved(self) -> tuple[_saves.Saved, _State]:
+    def _saved(self) -> tuple[_saves.Saved, State]:
         """What a file keeps of the run, and the state at that time."""
         pile, odometer = (new_array(self._shape, np.int64, what) for what in ("the heights", "the odometer"))
         _, lost, state = self._read(pile, odometer)
@@ -850,7 +615,7 @@ class Drive(HasPile, _hints.Hinted):
     def _of(cls, saved: _saves.Saved) -> Drive:
         run = cls(saved.given(), saved.seed, saved.stream, bool(saved.cylinder))
         run._start_grains = saved.start_grains
-        run._continue(_State(saved.drops, saved.drawn, _NO_ROWS))
+        run._continue(State(saved.drops, saved.drawn, NO_ROWS))
         return run
 
     def _go_to(self, saved: _saves.Saved) -> None:
@@ -862,7 +627,7 @@ class Drive(HasPile, _hints.Hinted):
         with was.use:
             # Both locks stay, since other threads may wait for them. In one step, so Ctrl-C can come at any time.
             again._handle.use, again._handle._dropping = was.use, was._dropping
-            vars(self).update({name: vars(again)[name] for name in _OF_THIS_PROCESS})
+            vars(self).update({name: vars(again)[name] for name in OF_THIS_PROCESS})
 
     def record(
         self,
@@ -939,7 +704,7 @@ class Drive(HasPile, _hints.Hinted):
             raise Fault(faults.PLAN, f"every is {every}, but must be 0 or more")
         with self._handle.dropping():
             recording.record(self, count, at, beside, every, progress)
-        return np.memmap(at, AVALANCHE, "r", shape=(count,)) if count else _NO_ROWS
+        return np.memmap(at, AVALANCHE, "r", shape=(count,)) if count else NO_ROWS
 
     def __repr__(self) -> str:
         height, width = self._shape

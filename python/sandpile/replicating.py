@@ -22,7 +22,8 @@ import numpy as np
 from numpy.typing import ArrayLike, NDArray
 
 from ._arrays import checked_edge, count_of, heights_and_edge, new_array, seed_of, shape_of
-from .driving import AVALANCHE, Drive
+from ._dropping import AVALANCHE
+from .driving import Drive
 from .faults import ShapeError
 from .progress import Bar
 from .stationary import drawn

@@ -28,7 +28,7 @@ from .faults import Fault
 _SITES_AT_ONCE = 1 << 20
 # The colours of 3 grains and 0 grains.
 _PATH, _WALL = 3, 0
-_NOT_TREE = 28
+faults.NOT_TREE = 28
 
 
 @dataclass(frozen=True, eq=False, repr=False)
@@ -122,7 +122,7 @@ class Tree(Result, Pictured, Hinted):
             if not (0 <= line < height and 0 <= at < width):
                 return np.array(found)
             found.append(line * width + at)
-        raise Fault(_NOT_TREE, f"from site {found[0]}, no path leads to the sink")
+        raise Fault(faults.NOT_TREE, f"from site {found[0]}, no path leads to the sink")
 
     def _shown(self) -> Any:
         height, width = self.directions.shape
@@ -142,11 +142,11 @@ def heights_of_tree(directions: NDArray[np.uint8], cylinder: bool, what: str = "
     try:
         call("of_tree", directions.shape, cylinder, directions, heights)
     except Fault as fault:
-        if fault.number != _NOT_TREE:
+        if fault.number != faults.NOT_TREE:
             raise
         row, column = _place_on_a_cycle(directions, cylinder)
         said = f"the {what} are not a spanning tree: from row {row}, column {column} they lead back there"
-        raise Fault(_NOT_TREE, said) from None
+        raise Fault(faults.NOT_TREE, said) from None
     return heights
 
 

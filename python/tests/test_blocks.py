@@ -9,7 +9,7 @@ from unittest import mock
 
 import numpy as np
 import sandpile
-from sandpile import driving
+from sandpile import _dropping, driving
 from test_live import equal
 from test_random import toppling_matrix
 from tools import TOP, in_blocks, same
@@ -56,7 +56,7 @@ def is_stopped_at(number, call):
 
     def trace(frame, event, _):
         is_cell = frame.f_code.co_filename == "cell"
-        if not is_cell and frame.f_code.co_filename != driving.__file__:
+        if not is_cell and frame.f_code.co_filename not in (driving.__file__, _dropping.__file__):
             return None
         frame.f_trace_opcodes = is_cell
         is_with = linecache.getline(frame.f_code.co_filename, frame.f_lineno).lstrip().startswith("with ")  # it has its lock
@@ -117,7 +117,7 @@ class Cells(unittest.TestCase):
     def test_one_that_lacks_memory(self):
         self.stop_in_a_part()
         for _ in range(3):
-            with mock.patch.object(driving, "new_array", side_effect=sandpile.Fault(4)):
+            with mock.patch.object(_dropping, "new_array", side_effect=sandpile.Fault(4)):
                 self.assertRaises(MemoryError, self.cell, 100, 30)
         self.cell(100, 30)
         self.assert_gathered(100)

@@ -7,7 +7,7 @@ import unittest
 import exports
 import numpy as np
 from sandpile import _library
-from sandpile.driving import _AVALANCHE
+from sandpile._dropping import _AVALANCHE
 from sandpile.sharing import _HOLDING
 from sandpile.waves import WAVE
 from tools import TOP
@@ -46,7 +46,7 @@ def fields(struct):
 
 def of_avalanche(struct):
     expected = fields(exports.laid_out(EXPORTED["sandpile_avalanche"]))
-    return [*exports.differences("driving.py", {"_AVALANCHE": fields(struct)}, {"_AVALANCHE": expected})]
+    return [*exports.differences("_dropping.py", {"_AVALANCHE": fields(struct)}, {"_AVALANCHE": expected})]
 
 
 def of_holding(struct):
@@ -125,5 +125,5 @@ class Module(unittest.TestCase):
     def test_a_wrong_field_is_named(self):
         kinds = [(name, _AVALANCHE[name]) for name in _AVALANCHE.names]
         exchanged = [kinds[-1], *kinds[1:-1], kinds[0]]
-        said = "driving.py: _AVALANCHE: field 1 is uint64 lost at 0, but uint64 site at 0 in the sources"
+        said = "_dropping.py: _AVALANCHE: field 1 is uint64 lost at 0, but uint64 site at 0 in the sources"
         self.assertEqual(of_avalanche(exchanged), [said])

@@ -6,7 +6,7 @@ from unittest import mock
 
 import numpy as np
 import sandpile
-from sandpile import _memory, driving
+from sandpile import _dropping, _memory
 from test_large import toppled
 from tools import fault_or, in_blocks, same
 
@@ -207,10 +207,10 @@ class Blocks(unittest.TestCase):
     def test_the_first_has_as_many_drops_as_fit_at_worst(self):
         # In an avalanche each site topples at most once a wave: 0.05 s are 762 times 1,024 * 16 topplings of 4 ns.
         for shape, cylinder, drops in (((32, 32), False, 762), ((2, 3), True, 2_083_333), ((4096, 4096), False, 1)):
-            self.assertEqual(driving._Pace(shape, cylinder).drops, drops)
+            self.assertEqual(_dropping.Pace(shape, cylinder).drops, drops)
 
     def test_they_shrink_at_once_and_grow_slowly(self):
-        pace = driving._Pace((4096, 4096), False)
+        pace = _dropping.Pace((4096, 4096), False)
         sizes = []
         for seconds in (1e-5,) * 6 + (0.2, 2.0) + (1e-5,) * 3:
             sizes.append(pace.drops)
@@ -218,7 +218,7 @@ class Blocks(unittest.TestCase):
         self.assertEqual(sizes, [1, 2, 4, 7, 11, 17, 26, 6, 1, 2, 4])
 
     def test_few_drops_say_little(self):
-        pace = driving._Pace((32, 32), False)
+        pace = _dropping.Pace((32, 32), False)
         before = pace.drops
         pace.note(1, 1e-6)
         self.assertEqual(pace.drops, before)
@@ -231,14 +231,14 @@ class Blocks(unittest.TestCase):
         def slow(*words):
             sizes.append(words[2])
             time.sleep(0.02 * words[2])
-            driving._drop(*words)
+            _dropping.drop_only(*words)
 
-        run._drop(lambda: (20, run._draw), True, make=slow)
+        run._drop(lambda: (20, run._draw), True, export=slow)
         self.assertEqual(sum(sizes), 20)
         self.assertLess(max(sizes), 4)
 
     def test_the_drops_are_the_same(self):
         one, other = (sandpile.Drive(np.full((64, 64), 3), seed=1) for _ in range(2))
-        with mock.patch.object(driving, "_SECONDS_IN_BLOCK", 1e-5):
+        with mock.patch.object(_dropping, "_SECONDS_IN_BLOCK", 1e-5):
             self.assertTrue(same(one.drop(3_000), other.drop(3_000)))
         self.assertTrue(same(one.pile, other.pile))
