@@ -14,6 +14,7 @@ from typing import Any, SupportsIndex
 import numpy as np
 from numpy.typing import ArrayLike, NDArray
 
+from . import faults
 from ._arrays import check_parents, directions_of, new_array, parents_of, site_at
 from ._grid import COLUMNS, DIRECTIONS, ROWS, beside
 from ._hints import OF_TREE, Hinted
@@ -28,7 +29,6 @@ from .faults import Fault
 _SITES_AT_ONCE = 1 << 20
 # The colours of 3 grains and 0 grains.
 _PATH, _WALL = 3, 0
-faults.NOT_TREE = 28
 
 
 @dataclass(frozen=True, eq=False, repr=False)
