@@ -676,7 +676,8 @@ class Drive(Dropping, HasPile, _hints.Hinted):
         RuntimeError
             If another process or thread is recording to the file, or dropping grains on this run.
         OSError
-            If a file cannot be read, locked or written. The next call goes on from the last save.
+            If a file cannot be read, locked or written, or the file of rows is removed, renamed or replaced meanwhile. The next
+            call goes on from the last save.
 
         See Also
         --------
