@@ -192,7 +192,7 @@ def _meant_by(array: NDArray[Any]) -> str:
     """How to get a pile of a shape, if that was passed in its place."""
     if array.ndim > 1 or array.size != 2 - (array.ndim == 0):
         return ""
-    height, width = np.broadcast_to(array, 2).tolist()
+    height, width = listed(np.broadcast_to(array, 2))
     shape = f"({height}, {width})"
     return f"; of the shape {shape}, numpy.zeros({shape}, int) is an empty pile, and random_recurrent({shape}) a random one"
 

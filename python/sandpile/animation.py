@@ -113,7 +113,7 @@ def animate(
         image.set_data(pixels(heights))
         return (image,)
 
-    def begun() -> Iterator[Heights]:
+    def begun() -> Generator[Heights, None, None]:
         """The frames. Each time that the animation begins, another copy makes the drops."""
         own = copy.copy(start)
         return _shown(frames(own, number), own, number) if progress else frames(own, number)
@@ -134,7 +134,7 @@ def _colours() -> NDArray[np.float64]:
     return colours
 
 
-def _shown(frames: Iterator[Heights], run: Drive, drops: int) -> Iterator[Heights]:
+def _shown(frames: Iterator[Heights], run: Drive, drops: int) -> Generator[Heights, None, None]:
     """The same frames. Shows how many drops they have."""
     before = run.drops
     with Bar(drops) as bar:

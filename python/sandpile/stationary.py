@@ -79,7 +79,7 @@ def random_recurrent(
     >>> sandpile.burn(start).is_recurrent, start == sandpile.random_recurrent((64, 64), seed=7)
     (True, True)
     >>> stack = sandpile.random_recurrent((64, 64), seed=7, count=100)
-    >>> stack.pile.shape, sandpile.burn(stack).is_recurrent.all()
+    >>> stack.pile.shape, bool(sandpile.burn(stack).is_recurrent.all())
     ((100, 64, 64), True)
     """
     sides, sequence, edge = shape_of(shape), _sequence_of(seed), checked_edge(cylinder)
