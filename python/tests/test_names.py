@@ -56,6 +56,12 @@ class OtherWords(unittest.TestCase):
 
         self.assertRaisesRegex(AttributeError, "'numpy.ndarray' object has no attribute 'nosuch'", lambda: Failing([[3]]).fails)
 
+    def test_help_says_whose_size_a_table_has(self):
+        table = sandpile.Drive([[3]]).drop(5)
+        self.assertEqual((table.size, table["size"].tolist()), (5, [1, 0, 0, 0, 1]))
+        said = " ".join(sandpile.Drive.drop.__doc__.split())
+        self.assertIn('``table["size"]`` is the column; ``table.size`` is NumPy\'s number of rows. No column has the duration', said)
+
     def test_what_they_name_is_there(self):
         for hints in (_hints.OF_MODULE, _hints.OF_RUN, _hints.OF_ELEMENT):
             for said in hints.values():
