@@ -6,7 +6,7 @@ import json
 import numpy as np
 import sandpile
 
-SECONDS = 20  # that anything may take
+SECONDS = 60  # that anything may take
 
 
 class Connection(http.client.HTTPConnection):
