@@ -43,7 +43,7 @@ AVALANCHE = np.dtype([(name, "i8") for name in ("number", *(_AVALANCHE.names or 
 NO_ROWS = np.empty(0, AVALANCHE)
 NO_HEIGHTS = np.empty((0, 0), np.int64)
 _COUNT = np.arange(_MOST_IN_BLOCK, dtype=np.int64)
-_NO_SITES = np.empty(0, np.int64)
+_NO_SITES: NDArray[np.int64] = np.empty(0, np.int64)
 _NO_BAR: ContextManager[Optional[Bar]] = nullcontext()
 
 # What a copy of a run does not take over.
