@@ -64,9 +64,12 @@ _TAKES: dict[str, tuple[Any, ...]] = {
 # What a call needs for each site, in bytes, by the growth of the process on 1,024 by 1,024 sites: the most that piles needed, with
 # the arrays that the call fills.
 _BYTES_A_SITE = {
-    "settle": 74, "burn": 30, "burn_times": 30, "tree": 32, "of_tree": 24, "random": 20, "identity": 64, "recurrent": 104,
-    "add": 90, "inverse": 90, "multiple": 104, "class": 144, "superstable": 144, "drive_new": 42, "shared_new": 44,
+    "settle": 62, "burn": 30, "burn_times": 30, "tree": 32, "of_tree": 24, "random": 20, "identity": 52, "recurrent": 92,
+    "add": 78, "inverse": 78, "multiple": 92, "class": 132, "superstable": 132, "drive_new": 42, "shared_new": 44,
 }
+# Calls that may guess an odometer, and what that takes for each mode of a row at each column.
+_GUESSES = {"settle", "identity", "recurrent", "add", "inverse", "multiple", "class", "superstable"}
+_BYTES_A_MODE = 12
 
 
 def _places() -> list[str]:
@@ -152,7 +155,8 @@ def most_in_words(height: int, width: int) -> str:
 
 def check_memory(name: str, height: int, width: int) -> None:
     """Refuses a call of an export for which the memory is not there."""
-    _memory.check(_BYTES_A_SITE.get(name, 0) * height * width, f"a grid of {height:,} by {width:,}")
+    modes = _BYTES_A_MODE * width**2 if name in _GUESSES else 0
+    _memory.check(_BYTES_A_SITE.get(name, 0) * height * width + modes, f"a grid of {height:,} by {width:,}")
 
 
 def call_on(name: str, *arguments: Any) -> None:
