@@ -129,8 +129,8 @@ fn widened(alloc: Global, numbers: &[u32]) -> Result<Vec<u64>, AllocError>
     Ok(wide)
 }
 
-// The pile of these directions and depths, or None if they are no tree. Fails only if an allocation fails.
-fn pile_on(
+/// The pile of these directions and depths, or None if they are no tree. Fails only if an allocation fails.
+pub(crate) fn pile_on(
     alloc: Global,
     shape: Shape,
     directions: &[u8],
