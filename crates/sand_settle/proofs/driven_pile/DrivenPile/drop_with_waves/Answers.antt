@@ -45,7 +45,7 @@ overflow_add-self-2 c =
 pub overflow_add-self-3 : goal.overflow_add-self-3
 overflow_add-self-3 c =
     let paid = (dropped (goal.at.overflow_add-self-3 c).After-drop_with_waves-waves).driven.paid in
-    omega (arith, paid.limit)
+    omega (arith, paid.limit, paid_few paid, c.self.invariant.paid.limit)
 
 pub overflow_add-self-4 : goal.overflow_add-self-4
 overflow_add-self-4 c = omega (arith, room (goal.at.overflow_add-self-4 c).After-drop_with_waves-waves)
