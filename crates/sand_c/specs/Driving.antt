@@ -2,9 +2,9 @@
 use Rattle.std.specs.Prelude.{ℕ, ◌≡◌, ◌+◌, ◌<◌, ◌⊎◌, slice_index, nat_lt, if◌then◌else◌, ◌==◌, List, [], ◌∷◌, ◌++◌, length, Option, Some, None, Result, Ok, Err}
 use Rattle.sand_model.specs.Grid.{sites}
 use Rattle.sand_model.specs.Piles.{PileView, height_of, most_grains_on}
-use Rattle.sand_settle.specs.Avalanches.{Avalanche, IsAvalanche}
+use Rattle.sand_settle.specs.Avalanches.{Avalanche}
 use Rattle.sand_settle.specs.Settling.{odometer_of}
-use Rattle.sand_settle.specs.Drops.{DrivenView, grid_of_driven, topplings_between, IsAfter, Drops, AreAvalanches}
+use Rattle.sand_settle.specs.Drops.{DrivenView, grid_of_driven, topplings_between, IsAfter, HasAvalanche, AreAvalanches}
 use Rattle.sand_c.specs.declared.faults.Fault.{Fault}
 use Rattle.sand_c.specs.declared.faults.Fault.TheVariants.{Length, Full, NoSite, Empty, Taken}
 use Rattle.sand_c.specs.Arguments.{has_length, ◌>>=◌}
@@ -78,8 +78,7 @@ pub record HaveDriven (v : DrivenView) (drops : List ℕ) (rows : List Avalanche
 
 -- a drop at this site leads from v to w: this is its avalanche, and the counts are how often each site topples in it
 pub record HasDriven (v : DrivenView) (site : ℕ) (a : Avalanche) (counts : List ℕ) (w : DrivenView) : Type 0 where
-  pub drops : Drops v site w
-  pub avalanche : IsAvalanche (grid_of_driven v) site (topplings_between v.settled w.settled) a
+  pub drops : HasAvalanche v site a w
   pub after : (start : PileView) (history : List ℕ) → IsAfter start history v → IsAfter start (history ++ site ∷ []) w
   pub len : length counts ≡ sites (grid_of_driven v)
   pub counts_are : (i : ℕ) → i < sites (grid_of_driven v)

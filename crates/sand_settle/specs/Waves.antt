@@ -3,15 +3,14 @@ use Rattle.std.specs.Prelude.{ℕ, ◌≡◌, ◌+◌, ◌≤◌, List, [], ◌�
 use Rattle.sand_model.specs.Sand.{one_at}
 use Rattle.sand_model.specs.Edges.{to_edge}
 use Rattle.sand_model.specs.Piles.{PileView, height_of}
-use Rattle.sand_settle.specs.Avalanches.{Avalanche, IsAvalanche, HasWaves}
-use Rattle.sand_settle.specs.Drops.{DrivenView, grid_of_driven, topplings_between, IsAfter, Drops}
+use Rattle.sand_settle.specs.Avalanches.{Avalanche, HasWaves}
+use Rattle.sand_settle.specs.Drops.{DrivenView, grid_of_driven, topplings_between, IsAfter, HasAvalanche}
 
--- drop number n, at a site, leads from v to w, and this is its avalanche; w is also the result of any start and drops
--- that led to v, followed by this drop
+-- drop number n, at a site, leads from v to w, with this avalanche; w is also the result of any start and drops that led
+-- to v, followed by this drop
 pub record HasDropped (v : DrivenView) (site n : ℕ) (a : Avalanche) (w : DrivenView) : Type 0 where
   pub number : n ≡ v.number
-  pub avalanche : IsAvalanche (grid_of_driven v) site (topplings_between v.settled w.settled) a
-  pub drops : Drops v site w
+  pub drops : HasAvalanche v site a w
   pub after : (start : PileView) (history : List ℕ) → IsAfter start history v → IsAfter start (history ++ site ∷ []) w
 
 -- the n waves of that drop, from the heights with the grain on, and their sizes, which are written to a list: the site

@@ -61,12 +61,14 @@ returns-clause-dropped c =
     (omega (arith, room at, c.self.invariant.all_grains)) (dropped at).taken in
     record {
       number = ap (λ (v : DrivenView). v.number) c.self.view_is;
-      avalanche = subst (λ (v : DrivenView). IsAvalanche (grid_of_driven v) c.args.site (topplings_between v.settled
-          (driven_record c.self.inside.start c.drop_with_waves-waves.new.self
-          (c.self.inside.topplings + c.drop_with_waves-waves.result.0.size)
-          (c.self.inside.lost + c.drop_with_waves-waves.result.0.lost)))
-          c.drop_with_waves-waves.result.0) c.self.view_is fell;
-      drops = drops;
+      drops = record {
+        drops = drops;
+        avalanche = subst (λ (v : DrivenView). IsAvalanche (grid_of_driven v) c.args.site (topplings_between v.settled
+            (driven_record c.self.inside.start c.drop_with_waves-waves.new.self
+            (c.self.inside.topplings + c.drop_with_waves-waves.result.0.size)
+            (c.self.inside.lost + c.drop_with_waves-waves.result.0.lost)))
+            c.drop_with_waves-waves.result.0) c.self.view_is fell;
+      };
       after = λ start history after. after_drop start history c.args.site c.args.self.now _ drops after;
     }
 
