@@ -4,6 +4,17 @@
 //! An export checks its arguments, calls the library's function, and writes its results only when nothing can fail any
 //! more. So after a fault no slice, no number and no handle has changed. No export keeps state between calls, except behind
 //! the handles that the caller holds.
+//!
+//! Where each call is, by the part of its name after `sandpile_`:
+//!
+//! - `settle`, `settle_all`: `settling`. `burn`: `burning`. `sites`: `streams`. `grain_limit`: `limit`. `version`: `version`.
+//! - `add`, `identity`, `inverse`, `multiple`, `recurrent`: `group`. `class`, `superstable`: `classes`.
+//! - `burn_times`, `tree`, `of_tree`, `random`: `trees`.
+//! - `drive_new`, `drive_drop`, `drive_waves`, `drive_avalanche`, `drive_free`: `driving`, on the `Drive` of `drive`, with its
+//!   drops in `dropping`, its waves in `waves` and its odometer in `kept_odometer`.
+//! - `shared_new`, `pass_free` and all that changes a pass: `passing`, on the `OwnedPass` of `owned_pass`.
+//! - `drive_read`, `drive_site`, `pass_holding`: `reading`, on handles that are lent (`lent`); `holding` has what a pass holds.
+//! - Handles: `drive_handle` and `pass_handle`, over `parts`. Arguments: `arguments`. Numbers of faults: `faults`.
 #![tactic(auto)]
 
 mod arguments;

@@ -1,5 +1,14 @@
 //! Settling a sandpile on one thread.
 //!
+//! Where each call and type is:
+//!
+//! - `settle` in `settling`, and `settle_in_place`, without a copy of the pile, in `in_place`. Both are carried out in `choice`,
+//!   which chooses how: by `queue`, or by a claimed odometer and what it leaves. `spreading` gives a site's grains away.
+//! - `Settled`, a settled pile with its odometer, in `settled`.
+//! - `OnePile` in `one_pile` and `DrivenPile` in `driven_pile`: piles on which one thread drops grains. `near` reads the sites near
+//!   a drop. `Avalanche` is in `sand_fronts`.
+//! - `SettleFault` and `OneFault` in `faults`.
+//!
 //! The definitions that contracts cite are in `specs/`: `Settling` (the settled record of a pile), `Drops` (drops on a
 //! settled pile, one by one), `Avalanches` and `Laws`. Proofs of other crates can rely on `laws`, and on the lemmas of
 //! `proofs/OneRecord`.
