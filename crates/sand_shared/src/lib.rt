@@ -20,10 +20,8 @@
 
 mod bare_pass;
 mod closing;
-mod completing;
 mod dropping_lists;
 mod faults;
-mod following;
 mod history;
 mod joining;
 pub mod laws;
@@ -31,6 +29,7 @@ mod pass;
 mod record;
 mod rows;
 mod rule;
+mod settling;
 mod shared_pile;
 mod site_counts;
 mod splitting;

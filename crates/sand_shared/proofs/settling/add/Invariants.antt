@@ -1,5 +1,5 @@
 use Rattle.std.proofs.Common.{◌≡◌, ℕ, ◌+◌, ◌<◌, ◌≤◌, length, get_or}
-use Rattle.sand_shared.proofs.completing.add.Given as goal
+use Rattle.sand_shared.proofs.settling.add.Given as goal
 
 abbrev pub invariant-places : goal.invariant-places
 invariant-places l = record {

@@ -1,6 +1,6 @@
 -- That counts and rest add up to the least odometer is required (`IsCompleted`); here they are added, as lists.
 use Rattle.sand_shared.proofs.Common.{ℕ, List, length, sym, ap, ◌+◌, ◌∙◌, refl, arith, slice_index, PileView, height_of, occurrences, settled_same, odometer_of}
-use Rattle.sand_shared.proofs.completing.record_of.Goals as goal
+use Rattle.sand_shared.proofs.settling.record_of.Goals as goal
 
 pub add-requires-clause-fits : goal.add-requires-clause-fits
 add-requires-clause-fits c i l =
