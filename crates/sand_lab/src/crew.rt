@@ -65,6 +65,7 @@ fn sweep_and_tally<R: Threads + Sync, G: Gate>(
 }
 
 impl Crew {
+    // For the proof: `work`, with a contract that speaks of the members one by one.
     fn all_work<R: Threads + Sync, G: Gate>(
         &mut self,
         rt: &R,

@@ -37,6 +37,7 @@ pub(crate) fn batch_size(drops: u32) -> u32
 
 impl Dropper {
     // Drops on the next site of the stream; the batch is empty.
+    // For the proof: `_turns`, the number of turns of which this is one.
     fn drop_next(&mut self, pile: &SharedPile, _turns: u32)
         requires dropping { HasSiteToRead pile.now _turns self.old }
         requires empty { self.old.batch.items ≡ [] }

@@ -16,12 +16,12 @@ ghost use Rattle.sand_lab.specs.Reports.{IsEpoch};
 
 use crate::album::{Album, Picture};
 use crate::crew::Crew;
+use crate::epoch_lists::{
+    Blank, settle_and_write_journal, work_and_make_blank, write_history_and_free,
+};
 use crate::faults::LabFault;
 use crate::gathering::{Findings, Gathered};
 use crate::journal::Entry;
-use crate::overlap::{
-    Blank, settle_and_write_journal, work_and_make_blank, write_history_and_free,
-};
 use crate::plan::quota_of;
 use crate::report::Sheet;
 use sand_model::Pile;

@@ -56,6 +56,7 @@ fn take_in(
 }
 
 // Joins a pass that has only receipts, and returns them.
+// For the proof: `take_in`, with what it means for such a pass.
 fn take_in_receipts(
     alloc: Global,
     pile: &SharedPile,

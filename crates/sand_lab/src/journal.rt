@@ -44,7 +44,8 @@ fn write_part(journal: &mut Vec<Entry>, dropper: u32, receipts: &[Receipt])
     }
 }
 
-/// Writes the journal of all receipts. They come in parts, one for each dropper, with `_drops` receipts each.
+/// Writes the journal of all receipts. They come in parts, one for each dropper.
+// For the proof: `_drops`, the number of receipts of each part.
 pub(crate) fn write_journal(journal: &mut Vec<Entry>, parts: &[Vec<Receipt>], _drops: u32)
     requires { HavePlaces _drops (lists parts.now) (vec_len journal.old) }
     ensures journal { IsJournal _drops (flattened (lists parts.now)) journal.new.items }

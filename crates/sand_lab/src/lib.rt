@@ -15,6 +15,7 @@
 mod album;
 mod crew;
 mod droppers;
+mod epoch_lists;
 mod epochs;
 mod faults;
 mod gathering;
@@ -22,7 +23,6 @@ mod hiring;
 mod journal;
 pub mod laws;
 mod observers;
-mod overlap;
 mod plan;
 mod report;
 mod runs;

@@ -1,4 +1,4 @@
-//! What overlaps in an epoch: its long lists are touched, written and freed on another thread while this one works.
+//! The long lists of an epoch: they are made, written and freed on another thread while this one works.
 //!
 //! A list of all drops takes many pages of memory. The system provides a page when it is first touched, which takes
 //! longer than the drops that the page is for, and takes it back when it is freed.
