@@ -7,7 +7,7 @@ use Rattle.sand_model.specs.Grid.{north, west, east, south}
 use Rattle.sand_group.proofs.OperationsOnHeights.{few_grains}
 use Rattle.sand_model.specs.Piles.{most_grains_on}
 use Rattle.sand_trees.specs.Trees.{depths_around, edges_below, edges_passed, IsTree, IsPileOfTree}
-use Rattle.sand_trees.specs.Walks.{IsHeightAmong, IsHeightAt}
+use Rattle.sand_trees.specs.Depths.{IsHeightAmong, IsHeightAt}
 use Rattle.sand_trees.proofs.Edges.{around_parent}
 use Rattle.sand_trees.proofs.Layers.{tree_stable, tree_recurrent}
 

@@ -1,7 +1,7 @@
 -- The direction of each site, from its height and the depths around it.
 use Rattle.sand_trees.proofs.Common.{ℕ, zero, suc, cond, ◌≡◌, ◌+◌, ◌-◌, ◌<◌, ◌≤◌, ◌==◌, inl, inr, refl, ap, arith, count_by, List, [], ◌∷◌, length, take, get_or, cases_Bool, cases_lt, nat_tests, sum_by-cons, Grid, sites}
 use Rattle.sand_trees.specs.Trees.{depths_around, edges_below, IsTree, IsPileOfTree}
-use Rattle.sand_trees.specs.Walks.{AreLayers}
+use Rattle.sand_trees.specs.Depths.{AreLayers}
 use Rattle.sand_trees.proofs.Edges.{length_around, levels, around_parent, edges_below_none, passed_is}
 
 pub layer_some : (g : Grid) (s d : ℕ → ℕ) → AreLayers g s d → (i : ℕ) → i < sites g → s i ≤ 3 → 0 < d i

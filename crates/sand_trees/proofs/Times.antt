@@ -5,7 +5,7 @@ use Rattle.sand_certify.proofs.OneByOne.{without, one_by_one}
 use Rattle.sand_group.specs.BurningTimes.{burns_within, is_time_within, AreBurningTimes}
 use Rattle.sand_group.proofs.BurningSteps.{count_same, burns_next}
 use Rattle.sand_trees.specs.Trees.{edges_below}
-use Rattle.sand_trees.specs.Walks.{AreLayers}
+use Rattle.sand_trees.specs.Depths.{AreLayers}
 use Rattle.sand_trees.proofs.Edges.{apart, all_four, edges_more, edges_below_none}
 
 -- ---- layers and times

@@ -5,7 +5,7 @@ ghost use Rattle.sand_model.specs.Grid.{IsGrid, is_inner, sites};
 ghost use Rattle.sand_model.specs.Piles.{height_of};
 ghost use Rattle.sand_group.specs.BurningTimes.{AreBurningTimes};
 ghost use Rattle.sand_trees.specs.Trees.{IsTree, IsPileOfTree, direction_of, depth_of};
-ghost use Rattle.sand_trees.specs.Walks.{AreLayers, IsHeightAt};
+ghost use Rattle.sand_trees.specs.Depths.{AreLayers, IsHeightAt};
 
 use crate::around::{count_below, depths_around, depths_at_edge, height_among, pick};
 use crate::tree::Tree;

@@ -1,6 +1,6 @@
 -- An inner site has a neighbour at each of the four places (`around_inner`).
 use Rattle.sand_trees.proofs.Common.{arith, refl, ◌∙◌, slice_index, length-set}
-use Rattle.sand_trees.specs.Walks.{IsHeightAt}
+use Rattle.sand_trees.specs.Depths.{IsHeightAt}
 use Rattle.sand_trees.proofs.Heights.{around_inner, at_site, near_inner, one_more_set}
 use Rattle.sand_trees.proofs.bijection.write_inner.Goals as goal
 

@@ -1,5 +1,5 @@
 use Rattle.sand_trees.proofs.Common.{ℕ, ◌≡◌, ◌<◌, length, slice_index, sites}
-use Rattle.sand_trees.specs.Walks.{IsHeightAt}
+use Rattle.sand_trees.specs.Depths.{IsHeightAt}
 use Rattle.sand_trees.proofs.bijection.write_inner.Given as goal
 
 abbrev pub invariant-loop-site : goal.invariant-loop-site

@@ -1,5 +1,5 @@
 use Rattle.std.proofs.Common.{arith, refl, ◌∙◌, slice_index, length-set}
-use Rattle.sand_trees.specs.Walks.{IsHeightAt}
+use Rattle.sand_trees.specs.Depths.{IsHeightAt}
 use Rattle.sand_trees.proofs.Heights.{at_site, one_more_set}
 use Rattle.sand_trees.proofs.bijection.write_some.Goals as goal
 
