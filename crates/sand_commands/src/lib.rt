@@ -21,5 +21,5 @@ mod texts;
 pub use faults::{DeskFault, report_fault, status, write_fault};
 pub use help::{show_help, write_explain_help, write_explained, write_version};
 pub use results::{burn_text, settle_text};
-pub use tasks::{carry_out, take_input};
+pub use tasks::{do_task_without_lab, take_input};
 pub use texts::{pgm_text, pile_text, read_drops, read_pile, read_two, table_text};

@@ -72,7 +72,7 @@ fn perform(alloc: Global, task: Task, input: &[u8]) -> Result<Vec<u8>, DeskFault
 /// once it is complete. The gate is called before each drop at random.
 // It is not inlined, so that its stack frame does not exist while the words are read.
 #[inline(never)]
-pub fn carry_out<G: Gate, W: Write>(
+pub fn do_task_without_lab<G: Gate, W: Write>(
     alloc: Global,
     gate: &G,
     task: Task,

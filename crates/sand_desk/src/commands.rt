@@ -17,7 +17,7 @@ use std::io::{Read, Write};
 use std::thread::Threads;
 
 // Does a task and writes its text.
-fn carry_out<T: Threads + Sync, G: Gate, W: Write>(
+fn do_task<T: Threads + Sync, G: Gate, W: Write>(
     rt: &T,
     alloc: Global,
     gate: &G,
@@ -36,7 +36,7 @@ fn carry_out<T: Threads + Sync, G: Gate, W: Write>(
         form,
     } = task
     else {
-        return sand_commands::carry_out(alloc, gate, task, input, writer);
+        return sand_commands::do_task_without_lab(alloc, gate, task, input, writer);
     };
     let text = lab_input(rt, alloc, gate, input, wish, Output { journal, form })?;
     write_text(writer, text.as_slice())?;
@@ -88,5 +88,5 @@ pub fn run_gated_command<T: Threads + Sync, G: Gate, R: Read, W: Write>(
 {
     let task = task_of(alloc, words)?;
     let input = take_input(alloc, task, reader)?;
-    carry_out(rt, alloc, gate, task, input.as_slice(), writer)
+    do_task(rt, alloc, gate, task, input.as_slice(), writer)
 }

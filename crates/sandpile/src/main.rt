@@ -34,14 +34,14 @@ fn main(rt: HostRuntime) -> ExitCode {
     match request_of(words) {
         Ok(request) => {
             let asked = Asked { request, words };
-            carry_out(&rt, alloc, asked, rt.stdin(), rt.stdout(), rt.stderr())
+            answer_and_advise(&rt, alloc, asked, rt.stdin(), rt.stdout(), rt.stderr())
         }
         Err(misuse) => report_misuse(&rt, misuse),
     }
 }
 
-// Carries out a request. At a terminal, long commands show their progress, and advice on a fault follows its line.
-fn carry_out<
+// Answers a request. At a terminal, long commands show their progress, and advice on a fault follows its line.
+fn answer_and_advise<
     T: Threads + Sync + Eprint + Clock + Env,
     R: Read + Drop,
     W: Write + IsTerminal + Drop,
@@ -57,8 +57,8 @@ fn carry_out<
     } else {
         None
     };
-    let is_same = stdout.is_terminal();
-    let mut output = Cleared::new(stdout, progress.as_ref().filter(|_| is_same));
+    let is_at_terminal = stdout.is_terminal();
+    let mut output = Cleared::new(stdout, progress.as_ref().filter(|_| is_at_terminal));
     let answered = answer(
         rt,
         alloc,

@@ -16,14 +16,14 @@ pub returns-clause-fault : goal.returns-clause-fault
 returns-clause-fault g c =
     let call : Call = call_of (map string_bytes c.args.words.now)
     (g.R.Read.remaining c.args.reader.now) (g.R.Read.remaining c.take_input.new.reader)
-    (g.W.Write.contents c.args.writer.now) (g.W.Write.contents c.carry_out.new.writer) in
+    (g.W.Write.contents c.args.writer.now) (g.W.Write.contents c.do_task.new.writer) in
     let read : IsRead call c.in_ok-task.task c.in_ok-input.input.items = record {
       is_asked = c.in_ok-task.ensures.ok;
       all = c.in_ok-input.ensures.taken;
       within = c.in_ok-input.ensures.within;
     } in
-    let ends = rw c.as_slice.ensures.value at c.carry_out.ensures.fault in
-    IfErr-weaker c.carry_out.result _ _
+    let ends = rw c.as_slice.ensures.value at c.do_task.ensures.fault in
+    IfErr-weaker c.do_task.result _ _
     (λ fault failed. work_ends call c.in_ok-task.task c.in_ok-input.input.items fault read failed) ends
 
 pub returns-clause-help : goal.returns-clause-help

@@ -2,7 +2,7 @@ use Rattle.sand_commands.proofs.Common.{common_steps, arith, ◌≡◌, sym, sub
 use Rattle.std.specs.Result.{IfErr}
 use Rattle.sand_cli.specs.declared.task.Task.TheVariants.{Drops}
 use Rattle.sand_commands.proofs.Endings.{found_first}
-use Rattle.sand_commands.proofs.tasks.carry_out.Goals as goal
+use Rattle.sand_commands.proofs.tasks.do_task_without_lab.Goals as goal
 
 pub returns-in-Drops-Some-default-clause-fault : goal.returns-in-Drops-Some-default-clause-fault
 returns-in-Drops-Some-default-clause-fault g c =
