@@ -6,7 +6,7 @@
 
 use crate::progress_text::progress_line;
 use sand_cli::{Task, task_of};
-use sand_plan::{Gate, Role};
+use sand_wish::{Gate, Role};
 use std::alloc::{AllocError, Global};
 use std::env::FillError;
 use std::io;

@@ -1,13 +1,13 @@
 -- The commands whose words have numbers ask for the task that their words spell.
 use Rattle.sand_cli.proofs.Common.{common_steps, ◌≡◌, ◌≤◌, ℕ, Bool, true, false, not, ◌&&◌, ◌||◌, is_some, if◌then◌else◌, [], ◌∷◌, Option, Some, None, refl, ap, arith, codes, decimal, option_map, Walk, GoTogether, IsDraw, IsRun, draw_by, with_settings, number_of, draw_words, settings_of, Conflict, Uncounted, Task, Drops, Identity, Lab, Multiple}
 use Rattle.clap.proofs.OnLiterals.{clap_on_literals}
-use Rattle.sand_plan.specs.Plans.{most_droppers, most_drops, most_epochs, most_observers, most_sweeps, most_workers}
+use Rattle.sand_wish.specs.Plans.{most_droppers, most_drops, most_epochs, most_observers, most_sweeps, most_workers}
 use Rattle.sand_cli.specs.declared.task.Draw.{Draw}
 use Rattle.sand_cli.specs.declared.task.Form.{Form}
 use Rattle.sand_cli.specs.declared.task.Form.TheVariants as forms
 use Rattle.sand_cli.specs.declared.task.Part.{Part}
 use Rattle.sand_cli.specs.declared.task.Part.TheVariants as parts
-use Rattle.sand_plan.specs.declared.wish.Wish.{Wish}
+use Rattle.sand_wish.specs.declared.wish.Wish.{Wish}
 use Rattle.sand_cli.proofs.NumberTexts.{IsText, number_text}
 use Rattle.sand_cli.proofs.Walks.{Asks, Reads, asks, end_passes, given, given_row, reads_both, reads_next, reads_option, reads_then, start}
 use Rattle.sand_cli.proofs.Within.{drops_built, identity_built, lab_built, multiple_built}

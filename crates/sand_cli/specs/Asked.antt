@@ -3,8 +3,8 @@ use Rattle.std.specs.Prelude.{◌≡◌, ◌≤◌, ⊤, ℕ, Bool, true, not, �
 use Rattle.std.specs.Str.{bytes_eq}
 use Rattle.clap.specs.Words.{Kinds, Row, Text, fault_of, subcommand_of}
 use Rattle.clap.specs.declared.error.kind.ErrorKind.TheVariants.{DisplayHelp}
-use Rattle.sand_plan.specs.Plans.{IsPlan}
-use Rattle.sand_plan.specs.declared.wish.Wish.{Wish}
+use Rattle.sand_wish.specs.Plans.{IsPlan}
+use Rattle.sand_wish.specs.declared.wish.Wish.{Wish}
 use Rattle.sand_cli.specs.Line.{command_line}
 use Rattle.sand_cli.specs.Options.{flag_in, number_in, setting_in}
 use Rattle.sand_cli.specs.declared.fault.Conflict.{Conflict}

@@ -12,7 +12,7 @@ use crate::help::{
 };
 use clap::builder::ValueParser;
 use clap::{Arg, ArgAction, Command};
-use sand_plan::{
+use sand_wish::{
     MOST_DROPPERS, MOST_DROPS, MOST_EPOCHS, MOST_OBSERVERS, MOST_SWEEPS, MOST_WORKERS,
 };
 use std::alloc::{AllocError, Global};

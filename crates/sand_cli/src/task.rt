@@ -10,7 +10,7 @@ use crate::fault::{Conflict, WordsFault};
 use crate::line::command_line;
 use crate::options::{flag_in, number_in, setting_in};
 use clap::ArgMatches;
-use sand_plan::Wish;
+use sand_wish::Wish;
 use std::alloc::Global;
 
 /// Drops at the sites of a random stream.

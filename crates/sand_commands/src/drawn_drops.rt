@@ -17,10 +17,10 @@ ghost use Rattle.sand_commands.specs.Streaming.{AreAdded, BreaksInRows, end_in, 
 use crate::faults::DeskFault;
 use crate::texts::read_pile;
 use sand_cli::{Draw, Part};
-use sand_plan::{Gate, Role};
 use sand_settle::{Avalanche, DrivenPile, Settled};
 use sand_streams::SiteReader;
 use sand_text::{Blocks, StreamFault, table_head};
+use sand_wish::{Gate, Role};
 use std::alloc::Global;
 use std::io::Write;
 

@@ -15,8 +15,8 @@ use crate::pile_commands::{
     sum_input,
 };
 use sand_cli::Task;
-use sand_plan::Gate;
 use sand_text::{StreamFault, read_all, write_text};
+use sand_wish::Gate;
 use std::alloc::Global;
 use std::io::{Read, Write};
 

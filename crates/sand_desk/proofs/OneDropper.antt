@@ -8,7 +8,7 @@ use Rattle.sand_settle.specs.Drops.{DrivenView, IsAfter}
 use Rattle.sand_settle.specs.Settling.{SettledView}
 use Rattle.sand_shared.specs.Record.{RecordView}
 use Rattle.sand_shared.proofs.Receipts.{is_one_threads}
-use Rattle.sand_plan.specs.declared.wish.Wish.{Wish}
+use Rattle.sand_wish.specs.declared.wish.Wish.{Wish}
 use Rattle.sand_lab.specs.Streams.{stream_of, stream_sites}
 use Rattle.sand_lab.proofs.RunHasOneOutcome.{one_threads_once}
 use Rattle.sand_text.specs.declared.fault.TextFault.{TextFault}

@@ -1,6 +1,6 @@
 -- `drops --count` has the result of a laboratory run with one dropper.
 use Rattle.std.specs.Prelude.{ℕ, ◌≡◌, Bool, List, Some}
-use Rattle.sand_plan.specs.declared.wish.Wish.{Wish}
+use Rattle.sand_wish.specs.declared.wish.Wish.{Wish}
 use Rattle.sand_cli.specs.declared.task.Draw.{Draw}
 use Rattle.sand_cli.specs.declared.task.Form.{Form}
 use Rattle.sand_cli.specs.declared.task.Form.TheVariants.{Pile}

@@ -10,9 +10,9 @@ use Rattle.sand_text.specs.Texts.{text_of}
 use Rattle.sand_cli.specs.declared.task.Form.{Form}
 use Rattle.sand_cli.specs.declared.task.Form.TheVariants.{Graymap, Pile, Text}
 use Rattle.sand_lab.specs.declared.journal.Entry.{Entry}
-use Rattle.sand_plan.specs.declared.wish.Wish.{Wish}
+use Rattle.sand_wish.specs.declared.wish.Wish.{Wish}
 use Rattle.sand_lab.specs.Laws.{AskTheSame}
-use Rattle.sand_plan.specs.Plans.{all_drops}
+use Rattle.sand_wish.specs.Plans.{all_drops}
 use Rattle.sand_lab.specs.Reports.{SheetView, ReportView, IsReport}
 
 abbrev pub sums_of : RecordView → Sums

@@ -11,7 +11,7 @@ use sand_cli::{Asked, Request};
 use sand_commands::{
     DeskFault, show_help, status, write_explain_help, write_explained, write_version,
 };
-use sand_plan::Gate;
+use sand_wish::Gate;
 use std::alloc::Global;
 use std::io::{Read, Write};
 use std::thread::Threads;

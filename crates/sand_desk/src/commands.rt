@@ -10,8 +10,8 @@ ghost use Rattle.sand_desk.specs.Commands.{IsTextOf, IsFaultOf, IsDone, EndsBy, 
 use crate::laboratory::{Output, lab_input};
 use sand_cli::{Task, task_of};
 use sand_commands::{DeskFault, take_input};
-use sand_plan::{Gate, Open};
 use sand_text::write_text;
+use sand_wish::{Gate, Open};
 use std::alloc::Global;
 use std::io::{Read, Write};
 use std::thread::Threads;

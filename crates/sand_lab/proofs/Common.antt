@@ -15,13 +15,13 @@ pub use Rattle.sand_shared.specs.OpenPile.{grid_of_terms, toppled_by, numbered, 
 pub use Rattle.sand_shared.specs.Passes.{SharedView, PassView, IsPassOf, at_rest, EachOnce, AllBelow, IsWhole, sites_kept, together}
 pub use Rattle.sand_shared.specs.Rows.{count_of, rows_between, upper_rows, lower_rows, rows_follow, rows_together, AreApart, no_rows}
 pub use Rattle.sand_shared.specs.Sweeps.{LeavesAtMost, SweptRows}
-pub use Rattle.sand_plan.specs.declared.wish.Wish.{Wish}
+pub use Rattle.sand_wish.specs.declared.wish.Wish.{Wish}
 pub use Rattle.sand_model.specs.Sand.{sum_below, occurrences, one_at}
 pub use Rattle.sand_shared.specs.declared.view.Receipt.{Receipt}
 pub use Rattle.sand_shared.specs.Record.{Tells, RecordView, IsOneThreads, IsRecordOf}
 pub use Rattle.sand_model.specs.Grid.{sites, Grid}
 pub use Rattle.sand_settle.specs.Settling.{odometer_of, SettledView}
-pub use Rattle.sand_plan.specs.Plans.{IsPlan, quota_of, all_drops}
+pub use Rattle.sand_wish.specs.Plans.{IsPlan, quota_of, all_drops}
 pub use Rattle.sand_lab.specs.Crews.{EachAt, band, due, rowless, banded, IsDropper, IsWorker, IsObserver, IsCrew, HasDroppedItsStream, HasSweptItsBand, HasReadItsTallies, HasWorked, tallies_each, upper_part, unshared}
 pub use Rattle.sand_lab.specs.Epochs.{AreTallies, AreSwept, IsClosed}
 pub use Rattle.sand_lab.specs.Gathering.{parts_of, all_counts, all_swept, readings, HasGathered, HoldsReceipts, HoldsBand, HoldsNothing, all_receipts}

@@ -11,7 +11,7 @@ use Rattle.sand_shared.specs.Rows.{no_rows, rows_between, count_of}
 use Rattle.sand_lab.specs.declared.crew.Crew.{Crew}
 use Rattle.sand_lab.specs.declared.droppers.Dropper.{Dropper}
 use Rattle.sand_lab.specs.declared.observers.Observer.{Observer}
-use Rattle.sand_plan.specs.declared.wish.Wish.{Wish}
+use Rattle.sand_wish.specs.declared.wish.Wish.{Wish}
 use Rattle.sand_lab.specs.declared.workers.Worker.{Worker}
 use Rattle.sand_lab.specs.Jobs.{Climbs}
 use Rattle.sand_lab.specs.Journals.{Ascends, receipt_sites}

@@ -3,8 +3,8 @@ use Rattle.std.specs.Prelude.{ℕ, ◌≡◌, ◌<◌, ◌≤◌, List, All, len
 use Rattle.sand_model.specs.Grid.{sites}
 use Rattle.sand_model.specs.Piles.{PileView}
 use Rattle.sand_model.specs.Sand.{sum_below, occurrences}
-use Rattle.sand_plan.specs.declared.wish.Wish.{Wish}
-use Rattle.sand_plan.specs.Plans.{quota_of}
+use Rattle.sand_wish.specs.declared.wish.Wish.{Wish}
+use Rattle.sand_wish.specs.Plans.{quota_of}
 use Rattle.sand_shared.specs.Record.{RecordView, IsOneThreads}
 use Rattle.sand_lab.specs.declared.epochs.ClosedEpoch.{ClosedEpoch}
 use Rattle.sand_lab.specs.declared.journal.Entry.{Entry}

@@ -4,7 +4,7 @@ use Rattle.std.specs.Prelude.{ℕ, ◌≡◌, ◌+◌, List, map, length, sum}
 use Rattle.sand_model.specs.Piles.{PileView}
 use Rattle.sand_settle.specs.Drops.{DrivenView}
 use Rattle.sand_shared.specs.Record.{RecordView}
-use Rattle.sand_plan.specs.declared.wish.Wish.{Wish}
+use Rattle.sand_wish.specs.declared.wish.Wish.{Wish}
 use Rattle.sand_lab.specs.Reports.{ReportView, IsReport}
 
 -- the state of one thread's pile after the history of a record

@@ -7,7 +7,7 @@ use Rattle.sand_model.specs.Piles.{PileView}
 use Rattle.sand_settle.specs.Settling.{odometer_of}
 use Rattle.sand_shared.specs.Record.{RecordView, IsOneThreads}
 use Rattle.sand_lab.specs.declared.journal.Entry.{Entry}
-use Rattle.sand_plan.specs.declared.wish.Wish.{Wish}
+use Rattle.sand_wish.specs.declared.wish.Wish.{Wish}
 use Rattle.sand_lab.specs.Albums.{PictureView, IsPlace}
 use Rattle.sand_lab.specs.Epochs.{IsClosed}
 

@@ -5,14 +5,14 @@ ghost use Rattle.std.specs.List.{AllZip};
 ghost use Rattle.std.specs.Thread.{IsSync};
 ghost use Rattle.sand_lab.specs.Crews.{IsCrew, HasBecome, HasWorked, tallies_each};
 ghost use Rattle.sand_lab.specs.Jobs.{CanDrop, CanSweep, CanTally, TookDropTurns, TookSweepTurns, TookTallyTurns};
-ghost use Rattle.sand_plan.specs.declared.wish.Wish.{Wish};
+ghost use Rattle.sand_wish.specs.declared.wish.Wish.{Wish};
 
 use crate::droppers::Dropper;
 use crate::observers::{Observer, TALLIES};
 use crate::turns::{TakeTurns, take_turns_together};
 use crate::workers::Worker;
-use sand_plan::{Gate, Open, Wish};
 use sand_shared::SharedPile;
+use sand_wish::{Gate, Open, Wish};
 use std::thread::{Threads, join_mut};
 
 /// All who work on the shared pile of an epoch.

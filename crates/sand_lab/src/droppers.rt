@@ -10,9 +10,9 @@ ghost use Rattle.std.specs.Int.{div_ceil};
 ghost use Rattle.sand_lab.specs.Jobs.{CanDrop, HasBegun, HasSiteToRead, IsDropping, TookDropTurns};
 
 use crate::turns::TakeTurns;
-use sand_plan::{Gate, Role};
 use sand_shared::{Pass, SharedPile, SiteCounts};
 use sand_streams::SiteReader;
+use sand_wish::{Gate, Role};
 
 /// The largest number of batches of a dropper.
 const BATCHES: u32 = 16;

@@ -5,7 +5,7 @@
 
 ghost use Rattle.std.specs.Prelude.{◌≡◌, ℕ, ◌≤◌, [], length, vec_len, vec_capacity, IfOk, IfErr};
 ghost use Rattle.std.specs.Thread.{IsSync};
-ghost use Rattle.sand_plan.specs.Plans.{quota_of};
+ghost use Rattle.sand_wish.specs.Plans.{quota_of};
 ghost use Rattle.sand_shared.specs.Passes.{IsPassOf, IsWhole};
 ghost use Rattle.sand_shared.specs.Sweeps.{IsRestOf};
 ghost use Rattle.sand_lab.specs.Crews.{IsCrew, HasBecome};
@@ -16,9 +16,9 @@ use crate::crew::Crew;
 use crate::faults::LabFault;
 use crate::journal::{Entry, blank_journal, history_of, room_for_history, write_journal};
 use crate::plan::quota_of;
-use sand_plan::{Gate, Wish};
 use sand_settle::Settled;
 use sand_shared::{BarePass, Receipt, SharedPile};
+use sand_wish::{Gate, Wish};
 use std::alloc::Global;
 use std::thread::{Threads, join, join_mut};
 

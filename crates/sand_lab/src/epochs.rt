@@ -4,8 +4,8 @@
 
 ghost use Rattle.std.specs.Prelude.{◌≡◌, ◌+◌, ◌<◌, ◌≤◌, [], length, sum, vec_len, vec_capacity, IfOk, IfErr};
 ghost use Rattle.sand_model.specs.Piles.{PileView, most_grains_on};
-ghost use Rattle.sand_plan.specs.declared.wish.Wish.{Wish};
-ghost use Rattle.sand_plan.specs.Plans.{IsPlan, quota_of};
+ghost use Rattle.sand_wish.specs.declared.wish.Wish.{Wish};
+ghost use Rattle.sand_wish.specs.Plans.{IsPlan, quota_of};
 ghost use Rattle.sand_shared.specs.Passes.{IsPassOf, IsWhole};
 ghost use Rattle.sand_shared.specs.Record.{IsRecordOf};
 ghost use Rattle.sand_lab.specs.Crews.{unshared};
@@ -25,8 +25,8 @@ use crate::journal::Entry;
 use crate::plan::quota_of;
 use crate::report::Sheet;
 use sand_model::Pile;
-use sand_plan::{Gate, Wish};
 use sand_shared::{BarePass, Pass, Receipt, Record, SharedPile};
+use sand_wish::{Gate, Wish};
 use std::alloc::Global;
 use std::thread::Threads;
 

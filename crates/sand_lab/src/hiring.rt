@@ -6,7 +6,7 @@ ghost use Rattle.sand_shared.specs.Passes.{IsPassOf, sites_kept};
 ghost use Rattle.sand_shared.specs.Rows.{no_rows, count_of, upper_rows, lower_rows};
 ghost use Rattle.sand_lab.specs.Crews.{EachAt, IsCrew, IsDropper, IsWorker, IsObserver, rowless, unshared};
 ghost use Rattle.sand_lab.specs.Faults.{IsMemory};
-ghost use Rattle.sand_plan.specs.Plans.{IsPlan, quota_of};
+ghost use Rattle.sand_wish.specs.Plans.{IsPlan, quota_of};
 
 use crate::crew::Crew;
 use crate::droppers::{Dropper, batch_size};
@@ -14,9 +14,9 @@ use crate::faults::LabFault;
 use crate::observers::{Observer, TALLIES};
 use crate::workers::Worker;
 use sand_model::Shape;
-use sand_plan::Wish;
 use sand_shared::{Pass, SharedPile, SiteCounts};
 use sand_streams::{SiteReader, stream_of};
+use sand_wish::Wish;
 use std::alloc::{AllocError, Global};
 
 // The droppers, each with its part of the quota, its stream, and room for a batch.

@@ -36,6 +36,6 @@ pub use journal::Entry;
 pub use plan::Plan;
 pub use report::Report;
 pub use runs::run;
-pub use sand_plan::{Gate, Open, Role, Wish};
 pub use sand_streams::SiteReader;
+pub use sand_wish::{Gate, Open, Role, Wish};
 pub use streams::sites_of;

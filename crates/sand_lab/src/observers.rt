@@ -1,8 +1,8 @@
 //! Observers: each reads the tally repeatedly.
 
 use crate::turns::TakeTurns;
-use sand_plan::{Gate, Role};
 use sand_shared::{Pass, SharedPile};
+use sand_wish::{Gate, Role};
 
 /// How often an observer reads the tally.
 pub(crate) const TALLIES: u32 = 16;

@@ -1,10 +1,10 @@
 //! A plan: a wish within its limits.
 
 ghost use Rattle.std.specs.Prelude.{◌≡◌, ◌↔◌, IfOk, IsErr};
-ghost use Rattle.sand_plan.specs.Plans.{IsPlan, quota_of};
+ghost use Rattle.sand_wish.specs.Plans.{IsPlan, quota_of};
 
 use crate::faults::LabFault;
-use sand_plan::Wish;
+use sand_wish::Wish;
 use std::marker::Model;
 
 /// A wish with each field within its limits.
@@ -14,8 +14,8 @@ pub struct Plan {
 }
 
 impl Model for Plan {
-    ghost use Rattle.sand_plan.specs.declared.wish.Wish.{Wish};
-    ghost use Rattle.sand_plan.specs.Plans.{IsPlan};
+    ghost use Rattle.sand_wish.specs.declared.wish.Wish.{Wish};
+    ghost use Rattle.sand_wish.specs.Plans.{IsPlan};
 
     ghost Value = { Wish };
 

@@ -2,7 +2,7 @@
 
 ghost use Rattle.std.specs.Prelude.{◌≡◌, ◌≢◌, ◌↔◌, ◌+◌, ◌*◌, ◌<◌, ◌≤◌, length, sum, IfOk, IfErr, OnOk};
 ghost use Rattle.sand_lab.specs.Faults.{IsOfEpoch};
-ghost use Rattle.sand_plan.specs.Plans.{IsPlan, all_drops, quota_of};
+ghost use Rattle.sand_wish.specs.Plans.{IsPlan, all_drops, quota_of};
 ghost use Rattle.sand_lab.specs.Reports.{IsReport, IsReportOf};
 ghost use Rattle.sand_model.specs.Piles.{PileView, most_grains_on};
 
@@ -12,7 +12,7 @@ use crate::faults::LabFault;
 use crate::plan::{Plan, quota_of};
 use crate::report::Report;
 use sand_model::Pile;
-use sand_plan::{Gate, Wish};
+use sand_wish::{Gate, Wish};
 use std::alloc::Global;
 use std::thread::Threads;
 

@@ -8,8 +8,8 @@ ghost use Rattle.std.specs.List.{AllZip};
 ghost use Rattle.std.specs.Thread.{IsSync, IsSend};
 ghost use Rattle.sand_shared.specs.Passes.{SharedView};
 
-use sand_plan::Gate;
 use sand_shared::SharedPile;
+use sand_wish::Gate;
 use std::thread::{Threads, join_mut};
 
 /// A member of a crew.

@@ -1,8 +1,8 @@
 //! Workers: each sweeps a band of rows.
 
 use crate::turns::TakeTurns;
-use sand_plan::{Gate, Role};
 use sand_shared::{Pass, SharedPile};
+use sand_wish::{Gate, Role};
 
 #[derive(Drop)]
 pub(crate) struct Worker {

@@ -1,6 +1,6 @@
 -- The limits of a run, and its numbers of drops.
 use Rattle.std.specs.Prelude.{ℕ, ◌≤◌, ◌*◌}
-use Rattle.sand_plan.specs.declared.wish.Wish.{Wish}
+use Rattle.sand_wish.specs.declared.wish.Wish.{Wish}
 
 abbrev pub most_droppers : ℕ
 most_droppers = 64

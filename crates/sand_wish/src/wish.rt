@@ -1,7 +1,7 @@
 //! What is asked of a run, and its limits.
 
 ghost use Rattle.std.specs.Prelude.{◌≡◌, ◌↔◌, true};
-ghost use Rattle.sand_plan.specs.Plans.{IsPlan};
+ghost use Rattle.sand_wish.specs.Plans.{IsPlan};
 
 /// The most droppers of an epoch.
 pub const MOST_DROPPERS: u32 = 64;
