@@ -58,7 +58,7 @@ impl Pass {
         ensures each_once { EachOnce self.now.receipts }
         ensures seen { AllBelow self.now.seen self.now.receipts }
     {
-        // Tells a proof what a pass says of its receipts.
+        // For the proof: what a pass says of its receipts.
         let _ = &self.bare.seat;
         self.receipts.as_slice()
     }

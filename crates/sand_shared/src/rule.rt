@@ -9,7 +9,7 @@ use crate::view::{Terms, View};
 use atomic_table::{Join, Play, Split, TableRule};
 use std::marker::{Brand, PhantomData};
 
-/// The pass and the events of one step, chosen at the call for the proofs alone.
+/// For the proof: the pass and the events of one step, chosen at the call.
 pub trait Picked {
     ghost use Rattle.std.specs.Prelude.{ℕ, List};
     ghost use Rattle.sand_shared.specs.declared.view.Terms.{Terms as TermsOf};

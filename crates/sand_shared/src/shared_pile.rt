@@ -22,6 +22,8 @@ use std::marker::{Brand, Model};
 ///
 /// Its calls take single atomic steps and never wait for another thread. At every moment its words and its passes are
 /// an open pile to which the events of `specs/Events` have led, and so a lawful one (`laws::lawful_at_every_moment`).
+///
+/// An example that runs is `crates/sand_race`.
 #[derive(Drop)]
 pub struct SharedPile {
     pub(crate) words: Words,

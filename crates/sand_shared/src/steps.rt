@@ -73,7 +73,7 @@ impl Words {
         &self.terms
     }
 
-    /// Tells a proof that the terms are within their limits. Does nothing else.
+    /// For the proof: the terms are within their limits. Does nothing at run time.
     #[inline(always)]
     pub(crate) fn tell_limits(&self)
         ensures { AreTerms self.now.terms }
@@ -195,6 +195,7 @@ impl Words {
     }
 
     /// Moves part of the pass's quota and the last of its sites to a new pass.
+    // For the proof: `_quota`, which is moved, and `_kept`, the number of sites that stay.
     pub(crate) fn split<J: Picked>(
         &self,
         seat: &mut PassSeat,
