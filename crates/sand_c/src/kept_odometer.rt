@@ -13,6 +13,7 @@ ghost use Rattle.sand_c.specs.KeptOdometers.{IsOdometer};
 use sand_settle::{DrivenPile, write_near};
 
 /// Writes how often each site has toppled.
+// For the proof: `DrivenPile::read_odometer`, with what it writes as one fact.
 pub(crate) fn read_odometer(pile: &DrivenPile, odometer: &mut [u64])
     requires { length odometer.old ≡ sites (grid_of_driven pile.now) }
     ensures { IsOdometer odometer.new pile.now }

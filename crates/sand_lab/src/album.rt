@@ -112,7 +112,7 @@ impl Album {
         self.places[k as usize].get_as(note)
     }
 
-    /// Tells a proof that two notes of place `k` that know a picture know the same one.
+    /// For the proof: two notes of place `k` that know a picture know the same one.
     pub fn agree(&self, k: u32, note: &mut Note, other: Note)
         requires place { IsPlace self.now k note.old.cell }
         requires other { IsPlace self.now k other.cell }

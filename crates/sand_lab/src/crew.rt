@@ -23,6 +23,7 @@ pub(crate) struct Crew {
     pub(crate) observers: Vec<Observer>,
 }
 
+// For the proof: `take_turns_together`, with a contract that speaks of the list and not of what it lends.
 fn all_take_turns<R: Threads + Sync, G: Gate, M: TakeTurns>(
     rt: &R,
     pile: &SharedPile,

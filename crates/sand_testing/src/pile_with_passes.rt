@@ -109,6 +109,8 @@ fn are_inside(shape: Shape, list: &[usize]) -> bool
     list.iter().all(|site| *site < sites)
 }
 
+// For the proof: `_pile`, here and below, the pile of all passes of the list.
+
 // Takes a pass out of a list.
 fn take(_pile: &SharedPile, passes: &mut Vec<Pass>, place: usize) -> Option<Pass>
     requires { All (IsPassOf _pile.now) passes.old.items }
