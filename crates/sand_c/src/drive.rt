@@ -140,6 +140,7 @@ impl Drive {
     }
 
     // Writes the heights.
+    // For the proof: `DrivenPile::read_heights`, with what it writes site by site.
     fn read_heights(&self, heights: &mut [u64])
         requires { length heights.old ≡ sites (grid_of_driven self.now) }
         ensures len { length heights.new ≡ length heights.old }
