@@ -211,6 +211,8 @@ fn left_over(alloc: Global, heights: &[u64], unburnt: &[u8]) -> Result<Vec<usize
 
 /// The burning test of a stable pile, in time proportional to the number of sites. Returns Unstable if a height is over
 /// 3, and Memory if an allocation fails.
+///
+/// An example that runs is `crates/sand_drive`.
 pub fn burn(alloc: Global, pile: &Pile) -> Result<Burned, GroupFault>
     ensures unstable { (result ≡ Err GroupFault.Unstable) ↔ ¬ IsStable pile.now.grid (height_of pile.now) }
     ensures memory { IsStable pile.now.grid (height_of pile.now) → IsOkUnless result (GroupFault.Memory alloc_error) }

@@ -107,6 +107,7 @@ pub(crate) fn settled_together(alloc: Global, a: &Pile, b: &Pile) -> Result<Pile
     ensures settled { IfOk result (SettlesTo a.now.grid (λ i. height_of a.now i + height_of b.now i)) }
     ensures memory { IsOkUnless result (GroupFault.Memory alloc_error) }
 {
+    // For the proof: each pile has a height for each site, and is within the limit.
     let _ = (a.grains(), b.grains());
     let both = match a.plus(alloc, b) {
         Ok(both) => both,

@@ -1,5 +1,14 @@
 //! The burning test, and the group of recurrent piles.
 //!
+//! Where each call and type is:
+//!
+//! - `burn` and `Burned` in `burning`; `burning_times` in `burning_steps`. An example that runs is `crates/sand_drive`.
+//! - `Recurrent`, `add`, `act`, `inverse` and `identity` in `group`, with the guess of the identity in `neutral`; `multiple` in
+//!   `multiplying`.
+//! - `equivalent_recurrent`, of a pile, in `equivalent`. Of integer heights: `recurrent_by_firing` and `Fired` in `classes`,
+//!   `superstable` in `superstables`, both by `reaching`.
+//! - `GroupFault` in `faults`.
+//!
 //! The definitions are in `specs/`: `Recurrence` (recurrent piles, burning orders, the greatest forbidden set), `Group`
 //! (sums, multiples, the identity, inverses, the recurrent pile of a class), `Burned` (what the burning test returns),
 //! `BurningTimes` (the step in which each site burns), `Classes` (integer heights: firing vectors, superstable heights)

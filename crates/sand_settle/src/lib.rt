@@ -6,7 +6,7 @@
 //!   which chooses how: by `queue`, or by a claimed odometer and what it leaves. `spreading` gives a site's grains away.
 //! - `Settled`, a settled pile with its odometer, in `settled`.
 //! - `OnePile` in `one_pile` and `DrivenPile` in `driven_pile`: piles on which one thread drops grains. `near` reads the sites near
-//!   a drop. `Avalanche` is in `sand_fronts`.
+//!   a drop. `Avalanche` is in `sand_fronts`. An example that runs is `crates/sand_drive`.
 //! - `SettleFault` and `OneFault` in `faults`.
 //!
 //! The definitions that contracts cite are in `specs/`: `Settling` (the settled record of a pile), `Drops` (drops on a

@@ -2,8 +2,8 @@
 //!
 //! Grains are dropped one by one, and each settles before the next. They are dropped on the same pile on tiles, a
 //! `DrivenPile`. Then the heights and counts near the dropped site are read from there: its avalanche has changed no
-//! other (`near`). After a far avalanche all are read, which is faster. The memory of the first drop serves all later ones (`room_is_kept`). The record is the same as if all
-//! grains had been on the start together (`laws::drops_add_up`).
+//! other (`near`). After a far avalanche all are read, which is faster. The memory of the first drop serves all later
+//! ones (`room_is_kept`). The record is the same as if all grains had been on the start together (`laws::drops_add_up`).
 
 ghost use Rattle.std.specs.Prelude.{◌≡◌, ℕ, ◌+◌, ◌^◌, ◌<◌, ◌≤◌, ◌↔◌, List, [], ◌∷◌, ◌++◌, length, sum, IfOk, IfErr, IsSome, IsOk, OnOk, OnErr, IsTrue, IsOkUnless, MatchOption, alloc_error};
 ghost use Rattle.sand_model.specs.Grid.{sites};

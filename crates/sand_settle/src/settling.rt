@@ -30,6 +30,8 @@ fn record_of(pile: &Pile, rest: Rest) -> Settled
 
 /// The settled record of a pile: its settled pile, its least odometer, the grains lost and the topplings. Fails only if
 /// an allocation fails (Memory). The pile is unchanged.
+///
+/// An example that runs is `crates/sand_tower`.
 pub fn settle(alloc: Global, pile: &Pile) -> Result<Settled, SettleFault>
     ensures record { IfOk result (λ r. IsSettledRecord pile.now.grid (height_of pile.now) r) }
     ensures kept { IfOk result (λ r. r.lost + sum r.pile.heights ≡ sum pile.now.heights) }

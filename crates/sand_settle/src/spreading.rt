@@ -8,8 +8,8 @@ ghost use Rattle.sand_settle.specs.Underway.{NeighboursGain};
 
 use sand_model::{IndexList, Lattice, TOPPLING_HEIGHT};
 
-/// Does nothing at run time. It tells the proof that no side of the grid is above 8,192: there are at most 2^26 sites,
-/// so each fits into 32 bits.
+/// For the proof: no side of the grid is above 8,192, so there are at most 2^26 sites, and each fits into 32 bits. Does nothing
+/// at run time.
 #[inline(always)]
 pub(crate) fn knows_sides(lattice: &Lattice)
     ensures { IsGrid lattice.now }
