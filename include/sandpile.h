@@ -9,10 +9,10 @@
    changed. Faults are listed in the order in which they are checked. Only MEMORY may come before one that is listed after
    "then".
 
-   An array of length 0 may be null. No other pointer may be, also not one to a number that is not wanted. No two pointers
-   of one call may point to the same memory (`sandpile_pass_join` says what it does if they do). No state is kept between
-   calls, except behind handles (below): threads may call concurrently, on different arrays, or on one array that all their
-   calls take as `const`.
+   An array of length 0 may be null, and so may the handle that a call frees. No other pointer may be, also not one to a number
+   that is not wanted. No two pointers of one call may point to the same memory (`sandpile_pass_join` says what it does if they
+   do). No state is kept between calls, except behind handles (below): threads may call concurrently, on different arrays, or on
+   one array that all their calls take as `const`.
 
    The library needs a processor of x86-64-v2, as most since 2009 are; on an older one, a call ends the program by SIGILL.
    If it was built for x86-64-v3, it exports `sandpile_x86_64_v3`, and on an older processor the loader of glibc refuses it:
@@ -266,7 +266,7 @@ uint32_t sandpile_drive_read(const sandpile_drive *drive, uint64_t *heights, siz
 /* Writes the height of a site and, since `sandpile_drive_new` and with its settling, how often it toppled. EMPTY, NO_SITE. */
 uint32_t sandpile_drive_site(const sandpile_drive *drive, size_t site, uint64_t *height, uint64_t *topplings);
 
-/* Frees what a handle holds, if anything, and empties it. Unlike that of `free`, the pointer must not be null. */
+/* Frees what a handle holds, if anything, and empties it. Does nothing if the pointer is null. */
 void sandpile_drive_free(sandpile_drive *drive);
 
 /* A pass of a shared pile: the right to drop some grains on it and to topple some of its rows. Threads drop and topple at
@@ -329,8 +329,8 @@ uint32_t sandpile_pass_settle(sandpile_pass *pass, uint64_t *heights, size_t hei
                               size_t odometer_length, size_t *history, size_t history_length, uint64_t *topplings,
                               uint64_t *lost);
 
-/* Frees what a handle holds, if anything, and empties it. The pointer must not be null. If a pass that is freed had quota, drops
-   or rows, `settle` by any other pass of its pile returns MISSING from then on. */
+/* Frees what a handle holds, if anything, and empties it. Does nothing if the pointer is null. If a pass that is freed had quota,
+   drops or rows, `settle` by any other pass of its pile returns MISSING from then on. */
 void sandpile_pass_free(sandpile_pass *pass);
 
 #ifdef __cplusplus

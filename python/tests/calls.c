@@ -514,6 +514,17 @@ static void null_piles(void) {
     sandpile_drive_free(&driven);
 }
 
+/* Like `free`, a call that frees takes null; and an empty handle, which stays empty. */
+static void free_nothing(void) {
+    sandpile_drive driven = {0};
+    sandpile_pass pass = {0};
+    sandpile_drive_free(NULL);
+    sandpile_pass_free(NULL);
+    sandpile_drive_free(&driven);
+    sandpile_pass_free(&pass);
+    assert(!driven.at && !pass.at);
+}
+
 int main(void) {
     version();
     grain_limit();
@@ -545,5 +556,6 @@ int main(void) {
     share_no_drops();
     null_arrays();
     null_piles();
+    free_nothing();
     return 0;
 }

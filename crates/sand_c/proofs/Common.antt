@@ -13,16 +13,16 @@ pub use Rattle.std_alloc.proofs.BoxSteps.Form.{Bx, P, handle, D, box_typed, B, R
 pub use Rattle.std_alloc.proofs.BoxSteps.Steps.{box_in, box_out}
 pub use seplogic.Ra.Ura.{Ura}
 pub use mir.Syntax.{Sym, impl, tnil, dnil, Ty, ty_ptr, a_type, dcons, Body, named, seq, assign, place, rv_opd, copy, aggregate, int, w8, w32, w64}
-pub use mir.Val.{Val, vstruct, of_list, vcons, vnil, has_ty, WT, vptr, vint, vnull}
+pub use mir.Val.{Val, vunit, vstruct, of_list, vcons, vnil, has_ty, WT, vptr, vint, vnull}
 pub use base.Fml.{Fml, fsep, Lft, Incl, feq, flt, fbor, Share, ftrue, fat, flft}
 pub use base.Logic.{SProp, ent, guard, via, fst∗, snd∗, never, guard_i, sep, wand, apply∗, never_e, id⊢}
 pub use prog.Wp.{WpFn, Wp, after_seq, at_return}
 pub use types.ByLocal.{alloc_all, pass_all, free_all, look_at, sets, get, get_in, sets_last, env, lands_last, lands_as, look_in_at, through, holding, forget_but}
-pub use types.Kit.{Item, Goal, Seq, Step, step, ‵, given, ◌$◌, drop, use1, learn, fsplit, fjoin, fpick, fpack, feq_l, feq_i, raw, ◌⊛◌, later, await, !, qed, use2, split, flt_i, updating, now, done, move, Soaks, ◌∵◌, keep, rewrite, flt_l, join, suffices, at_ret, use0, some, split3, pick, any_q, Sq, prop}
+pub use types.Kit.{group, Item, Goal, Seq, Step, step, ‵, given, ◌$◌, drop, use1, learn, fsplit, fjoin, fpick, fpack, feq_l, feq_i, raw, ◌⊛◌, later, await, !, qed, use2, split, flt_i, updating, now, done, move, Soaks, ◌∵◌, keep, rewrite, flt_l, join, suffices, at_ret, use0, some, split3, pick, any_q, Sq, prop}
 pub use types.Logic.{Logic, sem, lfts}
 pub use types.Match.{live}
 pub use types.Part.{agg, whole, sub}
-pub use types.Run.{enter, lit, no_more, and_then, returns, stop, fld, bin, of_opd, first, branches, exec, blocks, load, look, addr, from, hop}
+pub use types.Run.{skips, un, unit_lit, assigns_last, store, enter, lit, no_more, and_then, returns, stop, fld, bin, of_opd, first, branches, exec, blocks, load, look, addr, from, hop}
 pub use contract.Monad.{fact_use, fact}
 pub use contract.Running.{tables}
 pub use denote.Builtin.{RefOf, u32, u64, usize}
@@ -34,7 +34,7 @@ pub use denote.RattleType.{RattleType, Valss, RowLaws, owns}
 pub use denote.RawPtr.{Ptr, RawPtr, block_ptr, null_ptr, ptr_val, lies_at, in_a_block, Testable, count_of, coded_ptr, ptr_own, ptr_row_laws, rawptr_pure, tests_null}
 pub use denote.Ref.{ShrRef, MutRef}
 pub use denote.Signature.{Slot, plain, types_at, type_at}
-pub use denote.Steps.{nothing, only, looks, shuts, heard}
+pub use denote.Steps.{peeks, nothing, only, looks, shuts, heard}
 pub use denote.Struct.Struct.{Shape, Struct, within, Struct-row_laws, exits_of}
 pub use denote.Triple.Call.{calls_at_last, calls_at}
 pub use denote.Triple.Clauses.{Lasts, lasts, at_exit}
@@ -49,7 +49,7 @@ pub use Rattle.sand_settle.specs.Drops.{DrivenView, grid_of_driven, topplings_be
 pub use Rattle.sand_model.specs.Edges.{most_to_edge}
 pub use Rattle.sand_c.specs.Arguments.{Fails, Answers, Returns, IsAnswer, edge_of, grid_of, shaped, sides_of}
 pub use Rattle.sand_c.specs.Dropping.{are_sites}
-pub use Rattle.sand_c.specs.Handles.{c_heap, may_free, owns_at, lent_from, seen_in}
+pub use Rattle.sand_c.specs.Handles.{c_heap, may_free, owns_at, is_at, lent_from, seen_in}
 pub use Rattle.sand_c.specs.Settling.{are_within, AreRecords, settling_of, IsSettlingAt}
 pub use Rattle.sand_c.specs.Waves.{waves_from, AreWavesOf, AreWaves}
 pub use Rattle.sand_c.specs.declared.faults.Fault.{Fault}

@@ -1,5 +1,5 @@
 -- A handle is a pointer and what it owns: at null nothing, else a value in a block of its own.
-use Rattle.sand_c.proofs.Common.{◌≡◌, ℕ, List, [], ◌∷◌, ◌++◌, refl, subst, Ura, Val, vstruct, of_list, Sym, impl, tnil, dnil, Fml, fsep, SProp, ent, guard, via, fst∗, snd∗, never, guard_i, Logic, sem, Item, Goal, Seq, Step, step, ‵, given, ◌$◌, drop, use1, learn, fsplit, fjoin, fpick, fpack, feq_l, feq_i, fact_use, lone, IsSend, RattleType, Valss, Slot, plain, Ptr, RawPtr, block_ptr, null_ptr, ptr_val, lies_at, in_a_block, Testable, nothing, Shape, Struct, within, Option, None, Some, lies, Bx, c_heap, may_free, owns_at}
+use Rattle.sand_c.proofs.Common.{◌≡◌, ℕ, List, [], ◌∷◌, ◌++◌, refl, subst, Ura, Val, vstruct, of_list, Sym, impl, tnil, dnil, Fml, fsep, SProp, ent, guard, via, fst∗, snd∗, never, guard_i, Logic, sem, Item, Goal, Seq, Step, step, ‵, given, ◌$◌, move, drop, use1, learn, fsplit, fjoin, fpick, fpack, feq_l, feq_i, flt_l, ftrue, never_e, part_at, fact_use, lone, IsSend, RattleType, Valss, Slot, plain, Ptr, RawPtr, block_ptr, null_ptr, ptr_val, lies_at, in_a_block, Testable, nothing, Shape, Struct, within, Option, None, Some, lies, Bx, c_heap, may_free, owns_at, is_at}
 use mir.Raw.{raw as bare}
 use base.Fraction.{full_share}
 use base.Shift.{Keyless}
@@ -85,3 +85,13 @@ module _ (R : RattleType) {M : Type 1} {𝓤 : Ura M} {𝓛 : Logic 𝓤} {K : T
       use1 𝓛 (given (Testable p) (‵ (box_owns may_free R p x))) (testable R 𝓛 a p x) $ learn t (λ ok.
       in_a_block t p (λ q. box_owns may_free R q x) (fst∗ 𝓤 (never 𝓤) (sem 𝓛 (may_free (bare (lone R.mir)) null_ptr)))
       (λ b o e. one b o x e refl (subst Testable e ok)))
+
+  -- C passes null, or a pointer to a handle that may be compared with null
+  pub passed : K → (p : Ptr) (handle : Option R.Denot)
+      → (p ≡ null_ptr → handle ≡ None → Seq K 𝓛 Γ G)
+      → ((b o : ℕ) (h : R.Denot) → p ≡ block_ptr b o → handle ≡ Some h → Testable (block_ptr b o)
+      → Seq K 𝓛 (‵ (part_at R full_share h b o) ∷ Γ) G)
+      → Seq K 𝓛 (‵ (is_at R p handle) ∷ Γ) G
+  passed t p None none one = feq_l t (λ e. none e refl)
+  passed t null_ptr (Some h) none one = fsplit t $ use1 𝓛 (given ⊥ (‵ ftrue)) (never_e 𝓤 _) $ learn t (λ z. absurd z)
+  passed t (block_ptr b o) (Some h) none one = fsplit t $ move t (1 ∷ []) $ flt_l t (λ ok. one b o h refl refl ok)

@@ -6,7 +6,8 @@ use Rattle.std_heap.specs.contracts.GlobalAllocator.TheImpl.{ghosts}
 use base.Fml.{Fml, Lft, Share, feq, flt, fsep, flft}
 use denote.RattleType.{RattleType}
 use denote.Ref.{Bor}
-use denote.RawPtr.{Ptr, null_ptr, count_of}
+use base.Fraction.{full_share}
+use denote.RawPtr.{Ptr, null_ptr, count_of, lies_at}
 use denote.Sharing.{said, beside}
 use denote.Struct.Lending.{lent_at}
 use mir.Syntax.{Ty}
@@ -42,3 +43,13 @@ is_lent R p l = fsep (lent_from R p l.held l.life) (flft l.life l.share)
 abbrev pub seen_in : {A : Type 0} → Option (Bor A) → Option A
 seen_in None = None
 seen_in (Some r) = Some r.now
+
+-- what C passes to have a handle freed: null, or a pointer to the handle that may be compared with null
+abbrev pub is_at : (R : RattleType) → Ptr → Option R.Denot → Fml
+is_at R p None = feq Ptr p null_ptr
+is_at R p (Some handle) = fsep (lies_at R full_share p handle) (flt (count_of p) (2 ^ 63))
+
+-- what is there afterwards: an empty handle, if there was one
+abbrev pub freed : {Handle : Type 0} → Handle → Option Handle → Option Handle
+freed empty None = None
+freed empty (Some handle) = Some empty

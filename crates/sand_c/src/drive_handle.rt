@@ -62,6 +62,14 @@ impl SandpileDrive {
         }
     }
 
+    /// Frees what it holds, and returns an empty handle.
+    pub(crate) fn freed(mut self, alloc: Global) -> SandpileDrive
+        ensures { result.held ≡ None }
+    {
+        drop(self.take(alloc));
+        self
+    }
+
     /// Makes it hold this. It must be empty: what it held would be neither freed nor reached any more.
     pub(crate) fn put(&mut self, held: Box<Drive>)
         requires { self.old.held ≡ None }

@@ -2,10 +2,14 @@
 //!
 //! Each call takes the pile out of its handle, works on it, and puts it back.
 
-ghost use Rattle.std.specs.Prelude.{◌≡◌, ◌≢◌, IfOk, IfErr, OnOk, IsOk, None, length};
+ghost use Rattle.std.specs.Prelude.{◌≡◌, ◌≢◌, IfOk, IfErr, OnOk, IsOk, Option, None, length};
 ghost use Rattle.sand_c.specs.Arguments.{sides_of, Fails, Answers, Returns, pile_of};
 ghost use Rattle.sand_c.specs.Driving.{IsDriveOf, Holds, LeadsTo, HaveDriven, HasDriven, opening_of, driving_of, avalanche_of};
 ghost use Rattle.sand_c.specs.Waves.{HaveDrivenInWaves, waves_of};
+ghost use Rattle.sand_c.specs.Handles.{freed, is_at};
+ghost use Rattle.sand_c.specs.contracts.drive_handle.SandpileDrive.{the_row as drive_row};
+ghost use denote.RawPtr.{null_ptr};
+ghost use types.Logic.{sem};
 
 use crate::arguments::{Sides, pile_in, sides_of};
 use crate::drive::Drive;
@@ -139,10 +143,14 @@ pub extern "C" fn sandpile_drive_avalanche(
     answer(driven)
 }
 
-/// Frees what the handle holds, and empties it.
+/// Frees what the handle holds, and empties it; null is no handle, and nothing is done.
 #[unsafe(no_mangle)]
-pub extern "C" fn sandpile_drive_free(alloc: Global, drive: &mut SandpileDrive)
-    ensures { drive.new.held ≡ None }
+pub extern "C" fn sandpile_drive_free(alloc: Global, drive: *mut SandpileDrive)
+    ghost handle: { Option drive_row.Denot }
+    requires* { sem 𝓛 (is_at drive_row drive handle) }
+    ensures* emptied { sem 𝓛 (is_at drive_row drive (freed (record { at = null_ptr; held = None }) handle)) }
 {
-    drop(drive.take(alloc));
+    if !drive.is_null() {
+        unsafe { drive.write(drive.read().freed(alloc)) }
+    }
 }

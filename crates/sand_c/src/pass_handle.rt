@@ -62,6 +62,14 @@ impl SandpilePass {
         }
     }
 
+    /// Frees what it holds, and returns an empty handle.
+    pub(crate) fn freed(mut self, alloc: Global) -> SandpilePass
+        ensures { result.held ≡ None }
+    {
+        drop(self.take(alloc));
+        self
+    }
+
     /// Makes it hold this. It must be empty: what it held would be neither freed nor reached any more.
     pub(crate) fn put(&mut self, held: Box<OwnedPass>)
         requires { self.old.held ≡ None }

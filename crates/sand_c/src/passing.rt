@@ -2,10 +2,14 @@
 //!
 //! Each call takes the pass out of its handle, works on it, and puts it back.
 
-ghost use Rattle.std.specs.Prelude.{◌≡◌, ◌≢◌, IfOk, IfErr, MatchOption, OnOk, IsOk, None, length};
+ghost use Rattle.std.specs.Prelude.{◌≡◌, ◌≢◌, IfOk, IfErr, MatchOption, OnOk, IsOk, Option, None, length};
 ghost use Rattle.sand_c.specs.Arguments.{sides_of, pile_of, Fails, Answers, Returns, IsAnswer};
 ghost use Rattle.sand_c.specs.Driving.{Holds, LeadsTo, held_in};
 ghost use Rattle.sand_c.specs.Passing.{IsFirstOf, HaveDropped, HasCounted, HasSwept, GivesAway, AreSplit, AreSplitByRows, TakesOver, AreOfOnePile, IsRecordTo, RecordFails, JoinFails, with_quota_of, sharing_of, dropping_by, splitting_of, splitting_rows_of, both_in, recording_of};
+ghost use Rattle.sand_c.specs.Handles.{freed, is_at};
+ghost use Rattle.sand_c.specs.contracts.pass_handle.SandpilePass.{the_row as pass_row};
+ghost use denote.RawPtr.{null_ptr};
+ghost use types.Logic.{sem};
 
 use crate::arguments::{Sides, grains_of, grid_of, sides_of};
 use crate::faults::Fault;
@@ -314,11 +318,15 @@ pub extern "C" fn sandpile_pass_settle(
     }
 }
 
-/// Frees the pass that the handle holds, and empties it. Unless the pass has no quota left, no drops and no rows, no
-/// record of its pile can be made any more.
+/// Frees the pass that the handle holds, and empties it; null is no handle, and nothing is done. Unless the pass has no
+/// quota left, no drops and no rows, no record of its pile can be made any more.
 #[unsafe(no_mangle)]
-pub extern "C" fn sandpile_pass_free(alloc: Global, pass: &mut SandpilePass)
-    ensures { pass.new.held ≡ None }
+pub extern "C" fn sandpile_pass_free(alloc: Global, pass: *mut SandpilePass)
+    ghost handle: { Option pass_row.Denot }
+    requires* { sem 𝓛 (is_at pass_row pass handle) }
+    ensures* emptied { sem 𝓛 (is_at pass_row pass (freed (record { at = null_ptr; held = None }) handle)) }
 {
-    drop(pass.take(alloc));
+    if !pass.is_null() {
+        unsafe { pass.write(pass.read().freed(alloc)) }
+    }
 }
