@@ -1,10 +1,12 @@
-//! What no contract says: that a claim is made, by a guess, on tiles or by sweeps, and is right for small piles; and
-//! which piles count as high or flat. And a claim made by hand that is accepted.
+//! What no contract says: that a claim is made, by a guess, on tiles or by sweeps, and is right for small piles; that
+//! `settle` and `identity` use claims; and which piles count as high or flat. And a claim made by hand that is accepted.
 
 use crate::piles::{pile_on, ring, row};
 use sand_certify::certified;
+use sand_group::identity;
 use sand_guess::{Claim, guessed, guessed_identity, is_flat, is_high, swept, toppled};
 use sand_model::{Edge, Pile, Shape};
+use sand_settle::settle;
 use std::alloc::{AllocError, Global};
 use std::test::Fail;
 
@@ -51,6 +53,36 @@ fn guesses_an_identity(rt: HostRuntime) -> Result<(), Fail> {
     let square = Shape::new(3, 3)?;
     let counts = guessed_identity(rt.alloc(), square)?.ok_or("no guess")?;
     assert!(rt; counts.as_slice() == [1; 9].as_slice());
+    Ok(())
+}
+
+// A cylinder on which all columns of a pile that is level in each row are alike: a toppling moves a grain up and one
+// down. So from 6 grains on each site, row i topples 3 i (8193 - i) / 2 times, and 3 are left on each.
+fn tall_cylinder() -> Option<Shape> {
+    Shape::large(3, 8192, Edge::Cylinder).ok()
+}
+
+// The queue would take 28 minutes: it took 3.3 seconds on 1,024 rows, and takes 8 times as long on twice as many. A test has
+// one minute, and the claim takes 0.2 seconds.
+#[test]
+fn settles_by_a_claim(rt: HostRuntime) -> Result<(), Fail> {
+    let shape = tall_cylinder().ok_or("no grid")?;
+    let sixes = vec![in rt.alloc(); 6u64; shape.sites()]?;
+    let pile = Pile::new(rt.alloc(), shape, &sixes).ok().ok_or("no pile")?;
+    let settled = settle(rt.alloc(), &pile).ok().ok_or("no record")?;
+    assert!(rt; settled.topplings() == 412_467_867_648);
+    drop(settled);
+    Ok(())
+}
+
+// These topplings take 3 from each site with 3, too: so 3 on each is equivalent to none.
+#[test]
+fn finds_the_identity_by_a_claim(rt: HostRuntime) -> Result<(), Fail> {
+    let shape = tall_cylinder().ok_or("no grid")?;
+    let threes = vec![in rt.alloc(); 3u64; shape.sites()]?;
+    let neutral = identity(rt.alloc(), shape).ok().ok_or("no identity")?;
+    assert!(rt; neutral.pile().heights() == threes.as_slice());
+    drop(neutral);
     Ok(())
 }
 
