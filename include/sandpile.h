@@ -26,9 +26,10 @@
    threads. Memory comes from `malloc`, `realloc` and `free`. In a program that replaces them, all three must belong to one
    allocator, and the address of a block must be a multiple of each power of two up to 16 that divides the block's size.
 
-   While it runs, a call takes about 20 bytes for each site to burn a pile, to draw a random one or to make that of a tree; 30 to find
-   the tree of a pile; 80 to settle, 100 for the other calls of the group, 140 for integer heights; and where a pile settles, 12
-   times the square of the width as well. What handles keep is said below. */
+   While it runs, a call takes at most n bytes for each site of a grid with 16 more columns and 16 more rows. Here n is 20 to burn a
+   pile, to draw a random one or to make that of a tree, 24 for burning times, 30 for the tree of a pile, 80 to settle, 100 for the
+   other calls of the group, and 140 for integer heights. Where a pile settles, it takes 12 times the square of the width as well:
+   most of it if there are far more columns than rows. What handles keep is said below. */
 #ifndef SANDPILE_H
 #define SANDPILE_H
 
@@ -218,8 +219,8 @@ uint32_t sandpile_random(size_t width, size_t height, bool cylinder, uint64_t se
 
    A fork copies what handles hold, like all memory. Parent and child go on independently: neither sees the other's drops. */
 
-/* A driven pile: settled, and settled again after each drop. It takes about 42 bytes for each site, and up to 110 on
-   grids of a few hundred sites. Three calls settle a pile, drop grains on it and write the result: `sandpile_drive_new`,
+/* A driven pile: settled, and settled again after each drop. It takes at most 42 bytes for each site of a grid with 16 more
+   columns and 16 more rows. Three calls settle a pile, drop grains on it and write the result: `sandpile_drive_new`,
    `sandpile_drive_drop` and `sandpile_drive_read`. */
 typedef struct sandpile_drive {
     void *at;
