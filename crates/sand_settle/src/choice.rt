@@ -28,10 +28,14 @@ const MORE_TURNS_BEFORE_A_GUESS: u64 = 512;
 // The turns per site before tiles are tried. The queue is faster than tiles only if hardly anything topples.
 const TURNS_BEFORE_TILES: u64 = 1;
 
-// The same if a pile is no denser than settled piles are: about as many sites topple as there are.
+// The same if a pile is sparse: about as many sites topple as there are.
 const TURNS_IF_SPARSE: u64 = 3;
 
-// The least number of grains per 16 sites of a flooded pile.
+// The most grains per 8 sites of a sparse pile: the density of a large settled pile (Kenyon and Wilson 2015).
+const USUAL: u64 = 17;
+
+// The least number of grains per 16 sites of a flooded pile. On 256 by 256 sites, 43 would do for random piles: with 3 or 2 grains
+// at each site and one more in the middle, each of 100 such piles toppled 43 times a site. Others may have dams.
 const FULL: u64 = 47;
 
 // The bound on the topplings of a light pile: a part per site, and a constant.
@@ -124,7 +128,7 @@ fn settle_if_low(alloc: Global, pile: &Pile) -> Result<Option<Rest>, AllocError>
     }
     let sites = pile.shape().sites() as u64;
     let is_flat = is_flat(pile);
-    let budget = if is_flat && pile.grains() * 8 <= sites * 17 {
+    let budget = if is_flat && pile.grains() * 8 <= sites * USUAL {
         sites * TURNS_IF_SPARSE
     } else if is_flat {
         sites * TURNS_BEFORE_TILES
