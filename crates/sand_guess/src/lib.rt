@@ -8,7 +8,8 @@
 //! pile of half the size with the same number of grains per site. So:
 //!
 //! 1. `levels`: halve the pile again and again, until it is small. The smallest is guessed from a constant density.
-//! 2. `solver`: solve Lu = s - density in floating point, directly: modes along x, elimination along y.
+//! 2. `solver`: solve Lu = s - density in floating point, directly: modes along x, elimination along y. On large grids it
+//!    does so on a coarser one (`coarse`).
 //! 3. `repair`: correct the rounded counts, by toppling unstable sites (`tiles`) and taking back needless topplings
 //!    (`fires`). Here all numbers are exact.
 //! 4. `density`: local means of the resulting heights predict the density for the pile of twice the size, as far as such
@@ -21,6 +22,7 @@
 #![tactic(auto)]
 
 mod claim;
+mod coarse;
 mod density;
 mod fires;
 mod forecast;
