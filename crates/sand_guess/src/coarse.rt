@@ -45,16 +45,6 @@ fn add_times(sums: &mut [f64], row: &[f64], factor: f64) {
 }
 
 impl Side {
-    fn new(length: usize, is_round: bool) -> Side
-        requires { 0 < length }
-    {
-        Side {
-            length,
-            points: length / SITES + 1,
-            is_round,
-        }
-    }
-
     // The index of a point, and its weight. At open ends points are counted from the edge, where all is 0, and one beyond
     // it is the mirror image of the first or the last, with the sign changed.
     fn point(&self, number: usize, weight: f64) -> (usize, f64) {
@@ -124,8 +114,16 @@ impl Coarse {
     /// The coarser grid of a grid, used if it may be and the grid is large.
     pub(crate) fn of(shape: Shape, may_be_used: bool) -> Coarse {
         let is_round = shape.edge() == Edge::Cylinder;
-        let across = Side::new(shape.width(), is_round);
-        let down = Side::new(shape.height(), false);
+        let across = Side {
+            length: shape.width(),
+            points: shape.width() / SITES + 1,
+            is_round,
+        };
+        let down = Side {
+            length: shape.height(),
+            points: shape.height() / SITES + 1,
+            is_round: false,
+        };
         let is_large = shape.width().min(shape.height()) >= LEAST_SIDE;
         match Shape::large(across.points, down.points, shape.edge()) {
             Ok(points) if is_large && may_be_used => Coarse {

@@ -146,6 +146,7 @@ impl Tiles {
         self.count_back(k, counts);
         if let Some(place) = self.places.get_mut(k) {
             place.mark(counts, least);
+            place.limit(counts, least);
         }
     }
 
@@ -190,8 +191,8 @@ impl Tiles {
         is_any_left
     }
 
-    // Burns the marked sites, takes back a toppling of those that do not burn, and returns whether there are any.
-    fn burn(&mut self, counts: &mut [i64], least: i64) -> bool {
+    // Burns the marked sites.
+    fn burn(&mut self) {
         for n in 0..self.listed {
             let k = self.listed_tile(n);
             if let Some(place) = self.places.get_mut(k) {
@@ -202,7 +203,6 @@ impl Tiles {
         self.kindle();
         self.topple_waiting(ROUNDS);
         self.is_burning = false;
-        self.end_fire(counts, least)
     }
 
     // Burns until a fire that reaches all tiles burns all, and returns whether there was one.
@@ -211,7 +211,8 @@ impl Tiles {
         let mut is_whole = true;
         self.choose(true);
         for _ in 0..MOST_FIRES {
-            let is_left = self.burn(counts, least);
+            self.burn();
+            let is_left = self.end_fire(counts, least);
             rest = rest.saturating_sub(self.listed);
             if is_whole && !is_left || rest == 0 {
                 return rest > 0;
@@ -241,12 +242,14 @@ impl Tiles {
     }
 
     /// Writes by site the turn at which it burns, from 1 on, or 0 if nothing toppled there. All that toppled burns.
-    pub(crate) fn turns(&mut self, counts: &mut [i64], list: &mut Vec<i64>) {
+    pub(crate) fn turns(&mut self, counts: &[i64], list: &mut Vec<i64>) {
         list.fill(0);
         mem::swap(&mut self.turns, list);
-        self.renew_all(counts, 0);
+        for place in &mut self.places {
+            place.mark(counts, 0);
+        }
         self.choose(true);
-        self.burn(counts, 0);
+        self.burn();
         mem::swap(&mut self.turns, list);
     }
 }

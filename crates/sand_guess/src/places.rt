@@ -124,6 +124,10 @@ impl Place {
     pub(crate) fn mark(&mut self, counts: &[i64], least: i64) {
         let others = self.sites_with(counts, least.wrapping_add(1), 63);
         self.marks = self.tile.sites & !others;
+    }
+
+    /// Finds how often topplings can be taken back before marks change.
+    pub(crate) fn limit(&mut self, counts: &[i64], least: i64) {
         self.slack = MOST_SLACK;
         for row in 0..ROWS {
             let numbers = run(counts, self.first_in(row), self.columns);
