@@ -1,5 +1,5 @@
-"""The header and the library in C: the exports, each call with values worked out by hand and on a small stack; these values and
-the example under valgrind and AddressSanitizer."""
+"""The header and the library in C: the exports, each call with values worked out by hand and on a small stack, and what calls take of
+memory; these values and the example under valgrind and AddressSanitizer."""
 
 import ctypes
 import re
@@ -11,7 +11,7 @@ import sandpile
 from tools import LIBRARY, TOP, needs, new_folder, ran
 
 HERE = TOP / "python" / "tests"
-EXAMPLE, CALLS, STACK = TOP / "examples" / "settle.c", HERE / "calls.c", HERE / "stack.c"
+EXAMPLE, CALLS, STACK, MEMORY = TOP / "examples" / "settle.c", HERE / "calls.c", HERE / "stack.c", HERE / "memory.c"
 HEADER = TOP / "include" / "sandpile.h"
 INCLUDE = f"-I{HEADER.parent}"
 STRICT = ["-pedantic", "-Wall", "-Wextra", "-Werror"]
@@ -55,6 +55,10 @@ class FromC(unittest.TestCase):
         text = ran(self.built(STACK, "-O2", "-pthread"))
         taken = dict(re.findall(r"(sandpile_\w+): (\d+) bytes", text))
         self.assertEqual(taken.keys(), exports.calls(exports.exported()))
+
+    @needs("cc")
+    def test_calls_take_as_much_memory_as_the_header_says(self):
+        ran(self.built(MEMORY, "-O2"))
 
     def test_the_rounding_mode_changes_nothing(self):
         set_mode, results = ctypes.CDLL("libm.so.6").fesetround, set()
