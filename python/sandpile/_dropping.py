@@ -135,9 +135,9 @@ class Dropping:
     _cylinder: bool
     _start_grains: int
 
-    def _hold(self, given: Heights, state: State) -> None:
+    def _hold(self, given: Heights, state: State, progress: bool = False) -> None:
         """Makes the library hold a pile that was given these grains, in all drops so far and in those of the table."""
-        self._handle, self._shape = DriveHandle(given, self._cylinder), given.shape
+        self._handle, self._shape = DriveHandle(given, self._cylinder, progress), given.shape
         self._most, self._pace = _MOST_IN_BLOCK, Pace(given.shape, self._cylinder)  # drops in a block
         self._ahead = (0, _NO_SITES, 0)  # a place in the stream, the sites from there on, and their address
         self._few = self._found = _room(_FEW)  # the avalanches of the last block, and their address

@@ -9,7 +9,9 @@ import weakref
 
 from . import _library
 from ._arrays import Heights
+from ._interruptible import may_last
 from ._library import call, call_at, call_on, check_memory
+from .settling import Settled, settled
 
 
 class Handle:
@@ -51,11 +53,16 @@ class PassHandle(Handle):
 class DriveHandle(Handle):
     """A driven pile. Each call of the library is made under `with handle.use`, so one thread waits for another."""
 
-    def __init__(self, heights: Heights, cylinder: bool) -> None:
+    def __init__(self, heights: Heights, cylinder: bool, progress: bool = False) -> None:
         self._renew()
         super().__init__("drive")
-        if heights.max() > 3:  # the start is settled first
-            check_memory("settle", *heights.shape)
+        # What the start settled to, if Ctrl-C could end that. Else the library settles it, and counts its topplings.
+        self._first: Settled | None = None
+        if heights.max() > 3:
+            if may_last("settle", heights.shape, cylinder):
+                self._first = settled(heights, cylinder, progress)
+            else:
+                check_memory("settle", *heights.shape)
         call("drive_new", heights.shape, cylinder, heights, self.at)
         with _fork:  # a fork reads them all
             _drives.add(self)
@@ -77,14 +84,18 @@ class DriveHandle(Handle):
         """Writes both arrays, unless they are empty. Returns the topplings, the lost grains, and the drops made on this handle."""
         sums = ctypes.c_uint64(), ctypes.c_uint64(), ctypes.c_uint64()
         call_on("drive_read", self.at, heights, odometer, *map(ctypes.byref, sums))
-        topplings, lost, drops = sums
-        return topplings.value, lost.value, drops.value
+        topplings, lost, drops = (number.value for number in sums)
+        if self._first is not None:
+            odometer += self._first.odometer if odometer.size else 0
+            topplings, lost = topplings + self._first.topplings, lost + self._first.lost
+        return topplings, lost, drops
 
     def site(self, number: int) -> tuple[int, int]:
         """The height of a site, and how often it has toppled."""
         height, topplings = ctypes.c_uint64(), ctypes.c_uint64()
         call_at("sandpile_drive_site", self.at, number, ctypes.byref(height), ctypes.byref(topplings))
-        return height.value, topplings.value
+        first = 0 if self._first is None else self._first.odometer.item(number)
+        return height.value, topplings.value + first
 
 
 # A fork waits until no thread is inside a call on a driven pile, so the child's copy of each is whole. The locks of the

@@ -10,7 +10,7 @@ from typing import Any
 
 import numpy as np
 
-from . import _memory, _processor, faults
+from . import _interruptible, _memory, _processor, faults
 from .faults import Fault
 
 _NAME = "libsandpile.so.1"
@@ -120,18 +120,33 @@ def _declared(library: ctypes.CDLL, name: str) -> Any:
 
 
 library = _load()
+# As named, whatever folder this process goes to.
+_FILE: str = os.path.abspath(library._name) if "/" in library._name else library._name
 
 
-def call(name: str, shape: tuple[int, ...], cylinder: bool, *arguments: Any) -> None:
-    """Calls an export on a grid of this shape, as `call_on` does. A fault of too many grains names the limit of the grid."""
+def call(name: str, shape: tuple[int, ...], cylinder: bool, *arguments: Any, progress: bool = False) -> None:
+    """Calls an export on a grid of this shape, as `call_on` does, in another process if that may last. A fault of too many grains
+    names the limit of the grid."""
     height, width = shape
-    check_memory(name, height, width)
+    lasts = _interruptible.may_last(name, shape, cylinder)
+    shared = sum(array.nbytes for array in arguments if isinstance(array, np.ndarray)) if lasts else 0
+    check_memory(name, height, width, shared)
     try:
-        call_on(name, width, height, cylinder, *arguments)
+        if not (lasts and _is_made_apart(name, width, height, cylinder, *arguments, progress=progress)):
+            call_on(name, width, height, cylinder, *arguments)
     except Fault as fault:
         if fault.number != faults.TOO_MANY_GRAINS:
             raise
         raise Fault(faults.TOO_MANY_GRAINS, f"the pile has more than {most_in_words(height, width)}") from None
+
+
+def _is_made_apart(name: str, *arguments: Any, progress: bool) -> bool:
+    """Whether another process makes a call, which Ctrl-C can end. Raises the fault that the export returns."""
+    width, height = arguments[:2]
+    number = _interruptible.number_of(_FILE, name, f"{height:,} by {width:,}", arguments, progress)
+    if number:
+        raise Fault(number)
+    return number is not None
 
 
 @functools.lru_cache
@@ -153,10 +168,10 @@ def most_in_words(height: int, width: int) -> str:
     return f"{most:,} grains" if most == most_grains(1, 1) else f"{most:,} grains, the limit on {height:,} rows"
 
 
-def check_memory(name: str, height: int, width: int) -> None:
-    """Refuses a call of an export for which the memory is not there."""
+def check_memory(name: str, height: int, width: int, more: int = 0) -> None:
+    """Refuses a call of an export for which the memory is not there, with so many bytes more."""
     modes = _BYTES_A_MODE * width**2 if name in _GUESSES else 0
-    _memory.check(_BYTES_A_SITE.get(name, 0) * height * width + modes, f"a grid of {height:,} by {width:,}")
+    _memory.check(_BYTES_A_SITE.get(name, 0) * height * width + modes + more, f"a grid of {height:,} by {width:,}")
 
 
 def call_on(name: str, *arguments: Any) -> None:

@@ -27,20 +27,21 @@ def naming(number: int) -> Iterator[None]:
         raise Fault(fault.number, f"pile {number} of the stack: {fault.sentence}") from None
 
 
-def each_pile(name: str, heights: Heights, cylinder: bool, *others: Heights) -> None:
+def each_pile(name: str, heights: Heights, cylinder: bool, *others: Heights, progress: bool = False) -> None:
     """Calls an export on a pile and other arrays, or on the piles of a stack and the parts of these arrays one by one."""
     if heights.ndim == 2:
-        call(name, heights.shape, cylinder, heights, *others)
+        call(name, heights.shape, cylinder, heights, *others, progress=progress)
         return
     for number, one in enumerate_piles(heights, cylinder):
         with naming(number):
-            call(name, one.shape, cylinder, one, *(other[number : number + 1] for other in others))
+            parts = (other[number : number + 1] for other in others)
+            call(name, one.shape, cylinder, one, *parts, progress=progress)
 
 
-def each_class(name: str, heights: Heights, cylinder: bool, *others: Heights) -> None:
+def each_class(name: str, heights: Heights, cylinder: bool, *others: Heights, progress: bool = False) -> None:
     """Calls `each_pile` for an export that takes negative heights: its limit is one of their absolute values."""
     try:
-        each_pile(name, heights, cylinder, *others)
+        each_pile(name, heights, cylinder, *others, progress=progress)
     except Fault as fault:
         said = fault.sentence.replace("the pile has", "the absolute values of the heights sum to")
         raise Fault(fault.number, said) from None

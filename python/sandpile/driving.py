@@ -39,6 +39,8 @@ class Drive(Dropping, HasPile, _hints.Hinted):
         ``sandpile drops --count N --seed S --stream T`` drops at the same sites.
     cylinder : bool, optional
         Whether the first and the last column are neighbours. By default as in `pile` if that has a `cylinder`, else False.
+    progress : bool
+        Whether to show how long it takes to settle the start, as `settle` does.
 
     Raises
     ------
@@ -90,11 +92,12 @@ class Drive(Dropping, HasPile, _hints.Hinted):
         seed: SupportsIndex | np.random.SeedSequence | None = None,
         stream: SupportsIndex = 0,
         cylinder: bool | None = None,
+        progress: bool = False,
     ) -> None:
         heights, self._cylinder = heights_and_edge(pile, cylinder)
         self._seed, self._stream = seed_of(seed), count_of(stream, "stream")
         self._start_grains = int(heights.sum())
-        self._hold(heights, State(0, 0, NO_ROWS))
+        self._hold(heights, State(0, 0, NO_ROWS), progress)
 
     @property
     def pile(self) -> Heights:

@@ -178,6 +178,32 @@ class Recurrent(HasPile, Hinted):
         heights.reshape(-1, height * width)[:, site_at(site, row, column, self.shape)] += 1
         return Recurrent._known(settle(heights, self._cylinder).pile, self._cylinder)
 
+    def multiple(self, n: SupportsIndex, progress: bool = False) -> Recurrent:
+        """The sum of `n` copies of this element, which is ``n * self``.
+
+        Parameters
+        ----------
+        n : int
+            Any integer. If it is negative, the copies are those of the inverse.
+        progress : bool
+            Whether to show how long it takes, as `settle` does.
+
+        Raises
+        ------
+        Fault
+            Memory (4).
+        TypeError
+            If `n` is not an integer.
+
+        Examples
+        --------
+        >>> import sandpile
+        >>> a = sandpile.Recurrent([[3, 2], [2, 2]])
+        >>> a.multiple(25) == a, a.multiple(-1) == -a
+        (True, True)
+        """
+        return self._multiple(index_of(n, "a multiple"), progress)
+
     def tree(self) -> Tree:
         """The spanning tree of this element, by the burning bijection [1]_.
 
@@ -280,11 +306,11 @@ class Recurrent(HasPile, Hinted):
         with room_for(_COPY):
             return self._pile.copy()
 
-    def _made(self, name: str, *arguments: Any) -> Recurrent:
+    def _made(self, name: str, *arguments: Any, progress: bool = False) -> Recurrent:
         """The element that an export of the library makes from this one."""
         heights = self._copied()
         for one in _piles(heights):
-            call(name, self.shape, self._cylinder, one, *arguments)
+            call(name, self.shape, self._cylinder, one, *arguments, progress=progress)
         return Recurrent._known(heights, self._cylinder)
 
     def _is_beside(self, other: Recurrent) -> bool:
@@ -350,18 +376,22 @@ class Recurrent(HasPile, Hinted):
             n = index_of(times, "a multiple")
         except TypeError:
             return NotImplemented
-        return self._multiple(n) if n >= 0 else (-self)._multiple(-n)
+        return self._multiple(n)
 
-    def _multiple(self, n: int) -> Recurrent:
+    def _multiple(self, n: int, progress: bool = False) -> Recurrent:
         """The sum of `n` copies. The library takes an `n` below 2**64, so the bits of a larger one are read from the highest on,
         63 at once."""
-        if n < 1 << 64:
-            return self._made("multiple", n)
-        left = (n.bit_length() - 1) // 63 * 63
-        total = self._made("multiple", n >> left)
+        if n < 0:
+            return (-self)._multiple(-n, progress)
+
+        def times(a: Recurrent, n: int) -> Recurrent:
+            return a._made("multiple", n, progress=progress)
+
+        left = (n.bit_length() - 1) // 63 * 63 if n >> 64 else 0
+        total = times(self, n >> left)
         while left:
             left -= 63
-            total = total._made("multiple", 1 << 63) + self._made("multiple", n >> left & (1 << 63) - 1)
+            total = times(total, 1 << 63) + times(self, n >> left & (1 << 63) - 1)
         return total
 
     __rmul__ = __mul__
@@ -410,7 +440,7 @@ def _piles(heights: Heights) -> Sequence[Heights]:
     return [*heights] if heights.ndim == 3 else [heights]
 
 
-def identity(shape: Sequence[SupportsIndex], cylinder: bool = False) -> Recurrent:
+def identity(shape: Sequence[SupportsIndex], cylinder: bool = False, progress: bool = False) -> Recurrent:
     """The identity of the group of a grid.
 
     Parameters
@@ -419,6 +449,8 @@ def identity(shape: Sequence[SupportsIndex], cylinder: bool = False) -> Recurren
         The height and the width of the grid, each from 1 to 8,192.
     cylinder : bool
         Whether the first and the last column are neighbours.
+    progress : bool
+        Whether to show how long it takes, as `settle` does.
 
     Raises
     ------
@@ -449,25 +481,27 @@ def identity(shape: Sequence[SupportsIndex], cylinder: bool = False) -> Recurren
            [2, 1, 2]])
     """
     heights, edge = new_array(shape_of(shape), np.int64, "the heights"), checked_edge(cylinder)
-    call("identity", heights.shape, edge, heights)
+    call("identity", heights.shape, edge, heights, progress=progress)
     return Recurrent._known(heights, edge)
 
 
 @overload
-def recurrent(pile: ArrayLike, cylinder: bool | None = None, firing: Literal[False] = False) -> Recurrent: ...
+def recurrent(
+    pile: ArrayLike, cylinder: bool | None = None, firing: Literal[False] = False, progress: bool = False
+) -> Recurrent: ...
 
 
 @overload
 def recurrent(
-    pile: ArrayLike, cylinder: bool | None = None, *, firing: Literal[True]
+    pile: ArrayLike, cylinder: bool | None = None, *, firing: Literal[True], progress: bool = False
 ) -> tuple[Recurrent, NDArray[np.int64]]: ...
 
 
 @overload
-def recurrent(pile: ArrayLike, cylinder: bool | None = None, firing: bool = False) -> Any: ...
+def recurrent(pile: ArrayLike, cylinder: bool | None = None, firing: bool = False, progress: bool = False) -> Any: ...
 
 
-def recurrent(pile: ArrayLike, cylinder: bool | None = None, firing: bool = False) -> Any:
+def recurrent(pile: ArrayLike, cylinder: bool | None = None, firing: bool = False, progress: bool = False) -> Any:
     """The recurrent pile equivalent to a pile, or to each pile of a stack: they differ by topplings, forward or backward.
 
     Parameters
@@ -479,6 +513,8 @@ def recurrent(pile: ArrayLike, cylinder: bool | None = None, firing: bool = Fals
         Whether the first and the last column are neighbours. By default as in `pile` if that has a `cylinder`, else False.
     firing : bool
         Whether to return also how often each site topples.
+    progress : bool
+        Whether to show how long it takes, as `settle` does.
 
     Returns
     -------
@@ -532,9 +568,9 @@ def recurrent(pile: ArrayLike, cylinder: bool | None = None, firing: bool = Fals
     """
     heights, edge = heights_and_edge(pile, cylinder, may_be_stack=True, may_be_negative=True)
     if not firing and not (heights.size and heights.min() < 0):
-        each_pile("recurrent", heights, edge)
+        each_pile("recurrent", heights, edge, progress=progress)
         return Recurrent._known(heights, edge)
     vector = new_array(heights.shape if firing else 0, np.int64, "the firing vector")
-    each_class("class", heights, edge, vector)
+    each_class("class", heights, edge, vector, progress=progress)
     element = Recurrent._known(heights, edge)
     return (element, vector) if firing else element

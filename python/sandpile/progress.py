@@ -27,6 +27,7 @@ class Bar:
 
     def __init__(self, total: int, unit: str = "drop") -> None:
         self._total, self._unit, self._shown_at, self._is_shown = total, unit, 0.0, True
+        self._how: dict[str, Any] = {"total": total, "unit": unit, "unit_scale": True}
         self._tqdm: Any = None
         self._lock: Any = None  # of tqdm
 
@@ -36,7 +37,7 @@ class Bar:
                 warnings.simplefilter("ignore")  # in a notebook without ipywidgets the bar is text, which is fine
                 tqdm = _tqdm()
             self._lock = tqdm.get_lock()
-            self._tqdm = tqdm(total=self._total, unit=self._unit, unit_scale=True)
+            self._tqdm = tqdm(**self._how)
         except Exception:
             self._release()
         return self
@@ -52,7 +53,10 @@ class Bar:
                 self._release()
         if done == self._total or time.monotonic() - self._shown_at > 0.1:
             self._shown_at = time.monotonic()
-            self._write(f"\r{done:,} of {self._total:,} {self._unit}s")
+            self._write(f"\r{self._text(done)}")
+
+    def _text(self, done: int) -> str:
+        return f"{done:,} of {self._total:,} {self._unit}s"
 
     def __exit__(self, kind: type[BaseException] | None, error: BaseException | None, trace: TracebackType | None) -> None:
         if kind is not None:
@@ -75,3 +79,14 @@ class Bar:
                 print(text, end="", file=sys.stderr, flush=True)
             except Exception:
                 self._is_shown = False
+
+
+class Clock(Bar):
+    """Shows, in the same way, how many seconds something has taken so far."""
+
+    def __init__(self, what: str, seconds: int) -> None:
+        super().__init__(0, "second")
+        self._what, self._how = what, {"desc": what, "bar_format": "{desc}: {n:,} s", "initial": seconds}
+
+    def _text(self, done: int) -> str:
+        return f"{self._what}: {done:,} s"

@@ -23,6 +23,7 @@ from numpy.typing import ArrayLike, NDArray
 
 from ._arrays import checked_edge, count_of, heights_and_edge, new_array, seed_of, shape_of
 from ._dropping import AVALANCHE
+from ._interruptible import asking
 from .driving import Drive
 from .faults import ShapeError
 from .progress import Bar
@@ -108,7 +109,8 @@ def _replica(plan: _Plan, stream: int, stop: threading.Event | None = None) -> A
 
     try:
         go_on()
-        return (_table if plan.each is None else _measured)(plan, stream, go_on)
+        with asking(go_on) if stop else contextlib.nullcontext():
+            return (_table if plan.each is None else _measured)(plan, stream, go_on)
     except KeyboardInterrupt:
         _ended.add(plan.key)
         raise

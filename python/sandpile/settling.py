@@ -21,7 +21,7 @@ from ._library import call, most_grains, most_in_words
 from ._results import Result
 from .faults import TOO_MANY_GRAINS, Fault
 
-# A call of the library settles piles with so many sites together, or one pile. Ctrl-C waits for its end.
+# A call of the library settles piles with so many sites together, or one pile.
 _SITES_AT_ONCE = 1 << 16
 
 
@@ -52,7 +52,7 @@ class Settled(Result, HasPile, Hinted):
     cylinder: bool
 
 
-def settle(pile: ArrayLike, cylinder: bool | None = None) -> Settled:
+def settle(pile: ArrayLike, cylinder: bool | None = None, progress: bool = False) -> Settled:
     """Settles a pile, or each pile of a stack: sites with four or more grains give one to each neighbour, until there is no
     such site.
 
@@ -64,6 +64,8 @@ def settle(pile: ArrayLike, cylinder: bool | None = None) -> Settled:
     cylinder : bool, optional
         Whether the first and the last column are neighbours, so that grains are lost only in the north and the south. By
         default as in `pile` if that has a `cylinder`, such as a `Recurrent` or a `Drive`, else False.
+    progress : bool
+        Whether to show on standard error how long it takes, if that is over a second, with tqdm if it is installed.
 
     Raises
     ------
@@ -82,6 +84,10 @@ def settle(pile: ArrayLike, cylinder: bool | None = None) -> Settled:
     Notes
     -----
     The model is that of Bak, Tang and Wiesenfeld [1]_. The result does not depend on the order in which sites topple [2]_.
+
+    On a large grid another process settles the pile, so that Ctrl-C can end it at once; so it is with all calls that may take
+    long, but only in the main thread, which alone gets Ctrl-C. In others `progress` shows nothing. If something else ends that
+    process, the call raises a `RuntimeError`, or the fault Memory if it was SIGKILL, by which the system ends what takes too much.
 
     References
     ----------
@@ -104,17 +110,18 @@ def settle(pile: ArrayLike, cylinder: bool | None = None) -> Settled:
     array([1, 2])
     """
     heights, edge = heights_and_edge(pile, cylinder, may_be_stack=True)
-    return _settled(heights, edge) if heights.ndim == 2 else _settled_stack(heights, edge)
+    return settled(heights, edge, progress) if heights.ndim == 2 else _settled_stack(heights, edge, progress)
 
 
-def _settled(heights: Heights, edge: bool) -> Settled:
+def settled(heights: Heights, edge: bool, progress: bool = False) -> Settled:
+    """What `settle` returns, for heights that are checked, which it changes."""
     odometer = new_array(heights.shape, np.int64, "the odometer")
     lost, topplings = ctypes.c_uint64(), ctypes.c_uint64()
-    call("settle", heights.shape, edge, heights, odometer, ctypes.byref(lost), ctypes.byref(topplings))
+    call("settle", heights.shape, edge, heights, odometer, ctypes.byref(lost), ctypes.byref(topplings), progress=progress)
     return Settled(heights, odometer, lost.value, topplings.value, edge)
 
 
-def _settled_stack(heights: Heights, edge: bool) -> Settled:
+def _settled_stack(heights: Heights, edge: bool, progress: bool) -> Settled:
     count, *shape = heights.shape
     odometer = new_array(heights.shape, np.int64, f"the odometers of {count} piles")
     lost, topplings = np.empty(count, np.int64), np.empty(count, np.int64)
@@ -122,7 +129,8 @@ def _settled_stack(heights: Heights, edge: bool) -> Settled:
     for begin in range(0, max(count, 1), at_once):  # without piles, the edge is checked all the same
         some = slice(begin, begin + at_once)
         try:
-            call("settle_all", tuple(shape), edge, heights[some], odometer[some], lost[some], topplings[some])
+            arrays = (heights[some], odometer[some], lost[some], topplings[some])
+            call("settle_all", tuple(shape), edge, *arrays, progress=progress)
         except Fault as fault:
             raise _of_stack(fault, heights[some], begin) from None
     return Settled(heights, odometer, lost, topplings, edge)

@@ -13,7 +13,8 @@ from typing import Any, Sequence, SupportsIndex
 import numpy as np
 
 from ._arrays import Heights, checked_edge, count_of, index_of, listed, new_array, of_generator, shape_of
-from ._library import call_at, check_memory
+from ._interruptible import may_last
+from ._library import call, call_at, check_memory
 from ._stacks import enumerate_piles
 from .group import Recurrent
 
@@ -112,6 +113,9 @@ def _draw(heights: Heights, seed: np.random.SeedSequence, edge: bool) -> None:
     # NumPy takes twice as long to generate two numbers of 64 bits, the same ones, and to tell the address itself.
     low, high, stream_low, stream_high = listed(seed.generate_state(4))
     words = low | high << 32, stream_low | stream_high << 32
+    if may_last("random", heights.shape, edge):
+        call("random", heights.shape, edge, *words, heights)
+        return
     address = ctypes.addressof(ctypes.c_int64.from_buffer(heights.data))
     call_at("sandpile_random", width, height, edge, *words, address, heights.size)
 

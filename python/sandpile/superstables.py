@@ -12,7 +12,7 @@ from ._memory import room_for
 from ._stacks import each_class
 
 
-def superstable(pile: ArrayLike, cylinder: bool | None = None) -> Heights:
+def superstable(pile: ArrayLike, cylinder: bool | None = None, progress: bool = False) -> Heights:
     """The superstable pile equivalent to a pile, or to each pile of a stack: they differ by topplings, forward or backward.
 
     Parameters
@@ -22,6 +22,8 @@ def superstable(pile: ArrayLike, cylinder: bool | None = None) -> Heights:
         modified. An array of shape (k, height, width), or a list of piles of one shape, is a stack, which may be empty.
     cylinder : bool, optional
         Whether the first and the last column are neighbours. By default as in `pile` if that has a `cylinder`, else False.
+    progress : bool
+        Whether to show how long it takes, as `settle` does.
 
     Returns
     -------
@@ -63,7 +65,7 @@ def superstable(pile: ArrayLike, cylinder: bool | None = None) -> Heights:
     array([[0, 1, 0]])
     """
     heights, edge = heights_and_edge(pile, cylinder, may_be_stack=True, may_be_negative=True)
-    each_class("superstable", heights, edge)
+    each_class("superstable", heights, edge, progress=progress)
     return heights
 
 

@@ -165,7 +165,7 @@ class Memory(unittest.TestCase):
             self.assertRegex(said(call, (8192, 8192)), "^not enough memory for .*: .* needed, 100 MB available$")
 
     def test_a_wide_grid(self):
-        self.refused("a grid of 64 by 8,192", "838 MB", sandpile.settle, np.full((64, 8192), 4))
+        self.refused("a grid of 64 by 8,192", "846 MB", sandpile.settle, np.full((64, 8192), 4))
         self.assertEqual(sandpile.settle(np.full((8192, 64), 3)).topplings, 0)
 
     def test_what_drops_return(self):

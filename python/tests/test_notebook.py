@@ -38,6 +38,21 @@ again = run.drop(500)
 every = made().drop(drops + 500)
 print(1000 < drops == 1000 + len(table) < 10**7, (every[1000:drops] == table).all(), (every[drops:] == again).all())
 """
+LONG = """
+tower, begun = np.zeros((2048, 2048), int), []
+tower[1024, 1024] = 2**30
+
+def look():
+    time.sleep(0.7)
+    begun.append(time.monotonic())
+    print("settling", flush=True)
+
+threading.Thread(target=look).start()
+sandpile.settle(tower)
+"""
+LATER = """
+print(time.monotonic() - begun[0] < 5, tower.sum() == 2**30, sandpile.settle([[0, 4, 0]]).topplings)
+"""
 
 
 def outputs_of(notebook):
@@ -127,3 +142,8 @@ class Interrupt(unittest.TestCase):
         self.assertEqual(self.said(BEFORE), "")
         self.assertEqual(self.said(INTERRUPTED, interrupt_at="dropping\n"), "dropping\nKeyboardInterrupt")
         self.assertEqual(self.said(AFTER), "True True True\n")
+
+    def test_it_ends_a_settling(self):
+        self.said(BEFORE)
+        self.assertEqual(self.said(LONG, interrupt_at="settling\n"), "settling\nKeyboardInterrupt")
+        self.assertEqual(self.said(LATER), "True True 1\n")

@@ -42,7 +42,7 @@ assert_type(s.pile, Counts)
 assert_type(s.odometer, Counts)
 assert_type(s.lost, Any)  # of a stack it is an array
 assert_type(s == s, bool)
-assert_type(sandpile.settle([p, p], cylinder=True).pile, Counts)
+assert_type(sandpile.settle([p, p], cylinder=True, progress=True).pile, Counts)
 
 b = sandpile.burn(s.pile)
 assert_type(b.is_recurrent, Any)  # of a stack it is an array
@@ -53,7 +53,9 @@ assert_type(b.time, Counts)
 a = sandpile.recurrent(p)
 assert_type(a, sandpile.Recurrent)
 assert_type(sandpile.recurrent(-p, firing=True), tuple[sandpile.Recurrent, Counts])
-assert_type(sandpile.recurrent(-p, cylinder=True, firing=False), sandpile.Recurrent)
+assert_type(sandpile.recurrent(-p, firing=True, progress=True), tuple[sandpile.Recurrent, Counts])
+assert_type(sandpile.recurrent(-p, cylinder=True, firing=False, progress=True), sandpile.Recurrent)
+assert_type(a.multiple(10**30, progress=True), sandpile.Recurrent)
 assert_type(sandpile.recurrent(p, firing=s.lost > 9), Any)
 assert_type(sandpile.superstable(-p), Counts)
 assert_type(sandpile.is_superstable(p), Any)  # of a stack it is an array
