@@ -15,9 +15,9 @@ def compiled(source: Path, made: Path, *options: str) -> Path:
     return made
 
 
-def queue(folder: Path) -> Path:
-    """Compiles the plain queue in C that drops and settles as the program does."""
-    return compiled(TOP / "tools" / "bench" / "queue.c", folder / "queue", "-std=c99")
+def queue(folder: Path, side: int = 256) -> Path:
+    """Compiles the plain queue in C that drops and settles as the program does, for grids with sides up to this one."""
+    return compiled(TOP / "tools" / "bench" / "queue.c", folder / "queue", "-std=c99", f"-DSIDE={side}")
 
 
 def refusing_library(folder: Path) -> dict[str, str]:

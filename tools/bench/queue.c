@@ -11,7 +11,10 @@
 #include <stdlib.h>
 #include <string.h>
 
-enum { SIDE = 256, SITES = SIDE * SIDE, NEIGHBOURS = 4 };
+#ifndef SIDE
+#define SIDE 256
+#endif
+enum { SITES = SIDE * SIDE, NEIGHBOURS = 4 };
 
 /* The place `sites`, one past the last site, stands for all places outside the grid: grains that fall there are lost,
  * and since it is never looked at, toppling needs no test for the edge. */
@@ -115,7 +118,7 @@ static uint32_t site_at(int64_t x, int64_t y) {
 
 static void read_pile(void) {
     uint64_t w = read_number(), h = read_number();
-    if (w < 1 || w > SIDE || h < 1 || h > SIDE) refuse("a side is not from 1 to 256");
+    if (w < 1 || w > SIDE || h < 1 || h > SIDE) refuse("a side is too short or too long");
     width = (uint32_t)w;
     height = (uint32_t)h;
     sites = width * height;
