@@ -101,10 +101,11 @@ class OfCheck(OfScripts):
         status, said, _ = self.run_in("./check")
         self.assertEqual((status, said.splitlines()[-1]), (1, "18 passed, 1 failed"))
 
-    def test_the_refusals_are_read_from_what_the_proof_wrote(self):
+    def test_the_refusals_and_the_build_read_what_the_proof_wrote(self):
         stand_in(self.top / "tools/wrong-bodies", 'cat >> "$LOG"', "echo 'part: 2 passed, 0 failed'")
+        stand_in(self.top / "build", '[ "$1" != --after-ci ] || cat >> "$LOG"', "echo 'part: 2 passed, 0 failed'")
         self.run_in("./check")
-        self.assertEqual(self.noted(), ["rt ci", "3 passed, 0 failed"])
+        self.assertEqual(self.noted(), ["rt ci", "3 passed, 0 failed", "3 passed, 0 failed"])
 
     def test_a_signal_ends_it_in_good_order(self):
         stand_in(self.bin / "rt", """trap 'kill $! 2> /dev/null; echo ended >> "$LOG"; exit 1' INT TERM""", "sleep 60 & echo begun; wait")
@@ -167,6 +168,10 @@ class WithToolchain(OfScripts):
     def change(self, crate, text):
         source, = (self.top / "crates" / crate / "src").iterdir()
         source.write_text(text)
+
+    def remove_what_is_built(self):
+        for crate in self.top.joinpath("crates").iterdir():
+            shutil.rmtree(crate / "out", ignore_errors=True)
 
 
 class OfBuild(WithToolchain):
@@ -315,14 +320,39 @@ class OfBuild(WithToolchain):
         self.assertEqual(self.run_in("./build", "wheel")[0], 1)
         self.assertNotIn(f"wheel {self.top}/dist", self.noted())
 
-    def test_after_ci_only_the_library_is_left_to_build(self):
+    def leave_as_ci_does(self):
         stand_in(self.top / "crates/sandpile/out/sandpile", "echo by ci")
         (self.top / "crates/low/out/rlib/low.rlib").mkdir(parents=True)
+
+    def test_after_ci_only_the_library_is_left_to_build(self):
+        self.leave_as_ci_does()
         for words, proved in (([], []), (["library"], ["sand_c"])):
-            status, _, reported = self.run_in("./build", "--after-ci", *words)
+            status, _, reported = self.run_in("./build", "--after-ci", *words, input="rt: ok\n3 passed, 0 failed\n")
             self.assertEqual((status, self.proved()), (0, proved), reported)
             self.assertEqual(self.run_in("./build", "--if-changed", *words), (0, "", ""))
         self.assertEqual(self.run_in("./sandpile"), (0, "by ci\n", ""))
+        self.remove_what_is_built()
+        self.leave_as_ci_does()
+        stand_in(self.top / "tools/wheel", "touch $1/sandpile-2.whl; echo sandpile-2.whl")
+        status, _, reported = self.run_in("./build", "--after-ci", "wheel", input="3 passed, 0 failed\n")
+        self.assertEqual((status, self.proved()), (0, ["sand_c"]), reported)
+
+    def test_what_a_stopped_ci_has_left_is_proved_again(self):
+        part = "3 passed, 0 failed (low and the crates below alone: not the gate)\n"
+        for said in ("", "rt: low proved\n", "2 passed, 1 failed\n", part, "3 passed, 0 failed\nrt: stopped\n"):
+            with self.subTest(said=said):
+                self.remove_what_is_built()
+                self.leave_as_ci_does()
+                status, _, reported = self.run_in("./build", "--after-ci", input=said)
+                self.assertEqual((status, self.proved()), (0, ["low", "sandpile"]), reported)
+                again = "build: what `rt ci` has left is proved again: standard input has to be all that it wrote, to '0 failed'"
+                self.assertIn(again, reported.splitlines())
+
+    def test_what_rt_check_has_left_is_proved_again(self):
+        self.leave_as_ci_does()
+        (self.top / "crates/low/out/rlib/stamp").write_text("of other sources")
+        status, _, reported = self.run_in("./build", "--after-ci", input="3 passed, 0 failed\n")
+        self.assertEqual((status, self.proved()), (0, ["low"]), reported)
 
 
 class OfRelease(WithToolchain):
@@ -346,10 +376,6 @@ class OfRelease(WithToolchain):
         status, said, reported = self.run_in(*words)
         self.assertEqual(said, "")
         return status, reported.splitlines()[-1]
-
-    def remove_what_is_built(self):
-        for crate in self.top.joinpath("crates").iterdir():
-            shutil.rmtree(crate / "out", ignore_errors=True)
 
     @needs("sha256sum")
     def test_the_checksums(self):
