@@ -320,6 +320,25 @@ class OfBuild(WithToolchain):
         self.assertEqual(self.run_in("./build", "wheel")[0], 1)
         self.assertNotIn(f"wheel {self.top}/dist", self.noted())
 
+    def test_a_crate_lets_others_go_first_until_it_is_the_longest_left(self):
+        (self.top / "crates.txt").write_text(
+            "low:\nsand_lab: low\nsand_guess: sand_lab\nsand_plan:\nsandpile: sand_guess sand_plan\nsand_c staticlib: low\n"
+        )
+        for crate in ("sand_lab", "sand_guess", "sand_plan"):
+            (self.top / "crates" / crate / "src").mkdir(parents=True)
+            (self.top / "crates" / crate / "src/lib.rt").touch()
+        rattle, go_on = self.kit / "bin/rattle", self.room / "go on"
+        tell = """tell() { echo "$1 $(cut -d' ' -f19 /proc/self/stat)" >> "$LOG"; }"""
+        low = f'if [ $3 = low ]; then tell low; until [ -e "{go_on}" ]; do sleep 0.1; done; fi'
+        is_done = 'until [ -e ../sand_guess/out/statements/made-from ]; do sleep 0.1; done'
+        plan = f'if [ $3 = sand_plan ]; then sleep 1; tell plan; touch "{go_on}"; {is_done}; sleep 1; tell plan; fi'
+        stand_in(rattle, tell, low, plan, *rattle.read_text().splitlines()[1:])
+        self.assertEqual(self.run_in("./build")[0], 0)
+        said, nice = [line for line in self.noted() if " over " not in line], os.nice(0)
+        self.assertIn(f"low {nice}", said)
+        plans = [f"plan {nice + 5}", f"plan {nice + 5 if os.geteuid() else nice}"]
+        self.assertEqual([line for line in said if line.startswith("plan")], plans)
+
     def leave_as_ci_does(self):
         stand_in(self.top / "crates/sandpile/out/sandpile", "echo by ci")
         (self.top / "crates/low/out/rlib/low.rlib").mkdir(parents=True)
