@@ -3,11 +3,11 @@
 //! The queue is the plain way, always right, and fast if little topples. A light pile, of which a bound shows that not
 //! much topples (`is_light`), goes to the queue at once, and stays there. The odometer of a small and dense pile is
 //! claimed by sweeps (`sand_guess::swept`). On other piles the queue comes first, for a few turns per site, unless the
-//! pile is found to be high (`sand_guess::is_high`), or is flat and flooded and no dam is near (`is_flooded`). If the queue has not
-//! settled the pile, its odometer is claimed: by toppling on tiles if the pile is low and flat (`sand_guess::toppled`),
-//! and then by a guess (`sand_guess::guessed`). A claim is certified (`sand_certify`), which is a proof. If every claim
-//! is rejected, the queue settles the pile from the start, however long that takes. Nothing is proved of what
-//! `sand_guess` returns: a wrong claim costs time, and the result is the same.
+//! pile is found to be high (`sand_guess::is_high`), or is flat and flooded and no dam is near (`is_flooded`). If the
+//! queue has not settled the pile, its odometer is claimed: by toppling on tiles if the pile is low and flat
+//! (`sand_guess::toppled`), and then by a guess (`sand_guess::guessed`). A claim is certified (`sand_certify`), which
+//! is a proof. If every claim is rejected, the queue settles the pile from the start, however long that takes. Nothing
+//! is proved of what `sand_guess` returns: a wrong claim costs time, and the result is the same.
 
 ghost use Rattle.std.specs.Prelude.{◌≤◌, ◌^◌, IfOk, IfSome, IsSome};
 ghost use Rattle.sand_model.specs.Grid.{IsGrid};
