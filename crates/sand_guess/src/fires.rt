@@ -19,7 +19,7 @@ use std::mem;
 use std::simd::prelude::*;
 
 // More fires than any pile was seen to take.
-const MOST_FIRES: usize = 1_000_000;
+const MOST_FIRES: usize = 100_000_000;
 
 // The fires before the tiles near unburnt sites are chosen again.
 const PERIOD: i64 = 16;
