@@ -15,7 +15,7 @@ GRIDS = (
     (257, 3, False), (3, 257, False), (300, 300, False), (1, 8192, False), (8192, 1, False), (1024, 64, False),
     (257, 3, True), (3, 257, True), (300, 300, True), (1, 8192, True), (512, 3, True), (64, 1030, True),
 )
-# What piles of 3 grains a site or more take hours on: a site topples some 10**7 times, and no guess is certified.
+# Here each site of a high pile topples some 10**7 times, which takes a plain loop hours.
 LONGEST = (8192, 3, True)
 SEAMS = (0, 7, 8, 255, 256, 257, 511, 512, 1023, 1024, 1025, 1039)
 
@@ -126,7 +126,7 @@ class Settling(unittest.TestCase):
     def test_high_piles(self):
         # A pile of at least 3 everywhere settles to a recurrent one, and the least odometer is that of which each later one has
         # more: after it, no set of sites can take back a toppling each, which is burning.
-        for grid in GRIDS:
+        for grid in (*GRIDS, LONGEST):
             with self.subTest(grid=grid):
                 pile = random_pile(grid, 3, 7)
                 settled = self.is_settled(pile, grid[2])
@@ -280,6 +280,13 @@ class Group(unittest.TestCase):
                 least = sandpile.superstable(pile, cylinder)
                 self.assertTrue(sandpile.burn(3 - least, cylinder).is_recurrent)
                 self.assertTrue(sandpile.recurrent(least, cylinder) == element)
+
+    def test_what_is_superstable(self):
+        # On the way the heights 15 - 2 s settle, where s is what 6 at each site settle to. A guess takes back over 10**4 topplings
+        # of some sites.
+        pile = np.zeros((512, 512), int)
+        pile[256, 256] = 1
+        self.assertTrue(same(sandpile.superstable(pile), pile))
 
     def test_sums(self):
         for height, width, cylinder in (*GRIDS[:3], *GRIDS[4:8]):  # on (1, 8192) this takes long
