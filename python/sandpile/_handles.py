@@ -11,7 +11,7 @@ from . import _library
 from ._arrays import Heights
 from ._interruptible import may_last
 from ._library import call, call_at, call_on, check_memory
-from .settling import Settled, settled
+from .settling import settled
 
 
 class Handle:
@@ -56,11 +56,12 @@ class DriveHandle(Handle):
     def __init__(self, heights: Heights, cylinder: bool, progress: bool = False) -> None:
         self._renew()
         super().__init__("drive")
-        # What the start settled to, if Ctrl-C could end that. Else the library settles it, and counts its topplings.
-        self._first: Settled | None = None
+        # Odometer, topplings and lost grains of a start that was settled where Ctrl-C can end it. Else the library counts them.
+        self._first: tuple[Heights, int, int] | None = None
         if heights.max() > 3:
             if may_last("settle", heights.shape, cylinder):
-                self._first = settled(heights, cylinder, progress)
+                start = settled(heights, cylinder, progress)
+                self._first = start.odometer, start.topplings, start.lost
             else:
                 check_memory("settle", *heights.shape)
         call("drive_new", heights.shape, cylinder, heights, self.at)
@@ -85,17 +86,17 @@ class DriveHandle(Handle):
         sums = ctypes.c_uint64(), ctypes.c_uint64(), ctypes.c_uint64()
         call_on("drive_read", self.at, heights, odometer, *map(ctypes.byref, sums))
         topplings, lost, drops = (number.value for number in sums)
-        if self._first is not None:
-            odometer += self._first.odometer if odometer.size else 0
-            topplings, lost = topplings + self._first.topplings, lost + self._first.lost
+        if self._first:
+            each, all_topplings, all_lost = self._first
+            odometer += each if odometer.size else 0
+            topplings, lost = topplings + all_topplings, lost + all_lost
         return topplings, lost, drops
 
     def site(self, number: int) -> tuple[int, int]:
         """The height of a site, and how often it has toppled."""
         height, topplings = ctypes.c_uint64(), ctypes.c_uint64()
         call_at("sandpile_drive_site", self.at, number, ctypes.byref(height), ctypes.byref(topplings))
-        first = 0 if self._first is None else self._first.odometer.item(number)
-        return height.value, topplings.value + first
+        return height.value, topplings.value + (self._first[0].item(number) if self._first else 0)
 
 
 # A fork waits until no thread is inside a call on a driven pile, so the child's copy of each is whole. The locks of the

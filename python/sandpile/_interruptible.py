@@ -35,7 +35,7 @@ _MANY_TO_VISIT, _MANY_TO_SETTLE, _WIDE = 1 << 22, 1 << 18, 1 << 12
 _MANY_STEPS = 1 << 36
 # By these the system ends a process if memory runs out.
 _OF_MEMORY = (signal.SIGKILL, signal.SIGBUS)
-_MILLISECONDS, _MILLISECONDS_TO_ASK, _SECONDS_TO_END, _BYTES_AT_ONCE = 1000, 200, 0.1, 1 << 26
+_MILLISECONDS_TO_ASK, _SECONDS_TO_END, _BYTES_AT_ONCE = 200, 0.1, 1 << 26
 
 
 class _Thread(threading.local):
@@ -157,16 +157,17 @@ def _move(move: Callable[[int, list[memoryview], int], int], memory: int, places
 
 
 def _answer(pipe: int, progress: str) -> bytes:
-    """What the worker writes, or nothing if it ends. Shows how long that takes, once it has been a second."""
-    begun, poll, clock, go_on = time.monotonic(), select.poll(), None, _thread.go_on
+    """What the worker writes, or nothing if it ends. Shows the seconds that it takes, once it has taken one. An interrupt that is no
+    signal, such as that of IDLE, is found at the next look."""
+    begun, seen, poll, clock = time.monotonic(), 0, select.poll(), None
     poll.register(pipe, select.POLLIN)
     with contextlib.ExitStack() as stack:
-        while not poll.poll(_MILLISECONDS_TO_ASK if go_on else _MILLISECONDS if progress else None):
-            if go_on:
-                go_on()
+        while not poll.poll(_MILLISECONDS_TO_ASK):
+            if _thread.go_on:
+                _thread.go_on()
             seconds = int(time.monotonic() - begun)
-            if progress and seconds:
-                clock = clock or stack.enter_context(Clock(progress, seconds))
+            if progress and seconds > seen:
+                clock, seen = clock or stack.enter_context(Clock(progress, seconds)), seconds
                 clock.show(seconds)
     return os.read(pipe, 16)
 

@@ -1,5 +1,6 @@
 """Calls that may last are made by another process, which ends with them, whatever ends them: Ctrl-C, a signal, a lack of memory."""
 
+import _thread
 import contextlib
 import fcntl
 import io
@@ -11,6 +12,7 @@ import signal
 import subprocess
 import sys
 import termios
+import threading
 import time
 import unittest
 from concurrent.futures import ThreadPoolExecutor
@@ -298,6 +300,15 @@ class CtrlC(unittest.TestCase):
         # A busy machine may let this one wait.
         self.assertLess(sorted(map(float, seconds))[7], 0.5, seconds)
         self.assertLess(max(map(float, seconds)), 5, seconds)
+
+    def test_an_interrupt_that_is_no_signal(self):
+        before = signal.signal(signal.SIGINT, signal.default_int_handler)
+        self.addCleanup(signal.signal, signal.SIGINT, before)
+        with worker(self, "time.sleep(60)"):
+            threading.Timer(0.5, _thread.interrupt_main).start()
+            begun = time.monotonic()
+            self.assertRaises(KeyboardInterrupt, sandpile.settle, [[0, 4, 0]])
+            self.assertLess(time.monotonic() - begun, 10)
 
     def test_the_threads_of_replicas(self):
         seconds, statuses = self.said(REPLICAS).split()

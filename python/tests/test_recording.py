@@ -362,7 +362,7 @@ class OtherProcesses(InFolder):
         return child
 
     def test_killed_at_random_moments(self):
-        chance, kills, n = random.Random(1), 0, 200_000
+        chance, kills, n = random.Random(1), 0, 600_000
         for every in itertools.cycle((0, 0.01, 3600)):
             child = self.start(n, every)
             with contextlib.suppress(subprocess.TimeoutExpired):
