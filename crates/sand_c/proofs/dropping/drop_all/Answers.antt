@@ -19,10 +19,10 @@ loop-next-preserved c =
             (omega (arith, c.loop-next-test.true, was.avalanche_each)),
       )
           (avalanches_push c.args.pile.now v w drops (take i c.loop-next.avalanches) site c.drop_grain.result
-          was.avalanches (record { drops = dropped.drops; avalanche = dropped.avalanche }));
+          was.avalanches dropped.drops);
       after = λ start history first. rw more (subst (λ (l : List ℕ). IsAfter start l w) (append_assoc history drops (site ∷ []))
           (dropped.after start (history ++ drops) (was.after start history first)));
-      grid = dropped.drops.settled.grid ∙ was.grid;
-      grains = omega (arith, dropped.drops.grains, was.grains);
+      grid = dropped.drops.drops.settled.grid ∙ was.grid;
+      grains = omega (arith, dropped.drops.drops.grains, was.grains);
       avalanche_each = length-set c.loop-next.avalanches i c.drop_grain.result ∙ was.avalanche_each;
     }

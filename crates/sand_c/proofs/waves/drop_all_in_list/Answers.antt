@@ -27,14 +27,14 @@ loop-next-preserved c =
             (omega (arith, c.loop-next-test.true, was.avalanche_each)),
       )
           (avalanches_push start v w drops (take i c.loop-next.avalanches) site c.drop_in_list-more.result.0 was.avalanches
-          (record { drops = dropped.drops; avalanche = dropped.avalanche }));
+          dropped.drops);
       waves = rw (more, take_on front rest count n front_len) (waves_more start v w drops front site (take n rest)
           (subst (λ l. AreWaves start drops l v) (sym c.split_at_mut-rest.ensures.front) was.waves)
-          dropped.drops c.drop_in_list-more.ensures.waves);
+          dropped.drops.drops c.drop_in_list-more.ensures.waves);
       after = λ first history led. rw more (subst (λ (l : List ℕ). IsAfter first l w) (append_assoc history drops (site ∷ []))
           (dropped.after first (history ++ drops) (was.after first history led)));
-      grid = dropped.drops.settled.grid ∙ was.grid;
-      grains = omega (arith, dropped.drops.grains, was.grains);
+      grid = dropped.drops.drops.settled.grid ∙ was.grid;
+      grains = omega (arith, dropped.drops.drops.grains, was.grains);
       avalanche_each = length-set c.loop-next.avalanches i c.drop_in_list-more.result.0 ∙ was.avalanche_each;
       few = omega (arith, was.few, c.drop_in_list-more.ensures.few, ap (λ g. most_to_edge g) was.grid);
       rest = drop_on front rest count n front_len ∙ c.drop_in_list-more.ensures.rest
