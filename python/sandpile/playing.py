@@ -5,6 +5,7 @@ from __future__ import annotations
 import os
 import sys
 import threading
+import time
 from pathlib import Path
 from types import TracebackType
 from typing import TYPE_CHECKING, Any, SupportsIndex, cast
@@ -24,6 +25,7 @@ _FILES = Path(__file__).resolve().parent / "page"
 _SHAPE, _ICON = (64, 64), (16, 16)
 PORT = 8630
 _HIGH = 900  # pixels, in a notebook
+_SECONDS = 0.2  # between two looks whether a page is closed
 # Variables that tell of a kernel on another machine than the browser.
 _HUBS = ("JUPYTERHUB_API_TOKEN", "JUPYTERHUB_SERVICE_PREFIX", "COLAB_RELEASE_TAG", "KAGGLE_KERNEL_RUN_TYPE", "SSH_CONNECTION")
 
@@ -43,7 +45,7 @@ class Page:
     """
 
     def __init__(self, session: Session, server: Server) -> None:
-        self._session, self._server, self._closed = session, server, threading.Event()
+        self._session, self._server, self._is_open = session, server, True
         # A daemon, so that a program can end without closing the page.
         threading.Thread(target=server.serve_forever, kwargs={"poll_interval": 0.05}, daemon=True).start()
 
@@ -57,20 +59,20 @@ class Page:
 
     @property
     def is_open(self) -> bool:
-        return not self._closed.is_set()
+        return self._is_open
 
     def close(self) -> None:
         """Stops the server. The run stays. A page that is closed stays closed."""
         if self.is_open:
-            self._closed.set()
+            self._is_open = False
             self._server.shutdown()
             self._server.server_close()
 
     def wait(self) -> None:
         """Waits until the page is closed, or until Ctrl-C, which closes it."""
         try:
-            while not self._closed.wait(3600):
-                pass
+            while self.is_open:
+                time.sleep(_SECONDS)  # if Ctrl-C comes while the lock of an event is taken, it stays locked
         except KeyboardInterrupt:
             pass
         finally:

@@ -1,6 +1,7 @@
 """The page's server: what it answers, what it refuses, and that the run is a real one."""
 
 import io
+import itertools
 import json
 import os
 import re
@@ -17,6 +18,7 @@ from unittest import mock
 import numpy as np
 import sandpile
 from play_tools import SECONDS, asked, changed, opened, place_of, read, refused, unpacked
+from sandpile import playing
 from tools import TOP, needs_module, new_folder, same
 
 os.environ["PYDEVD_DISABLE_FILE_VALIDATION"] = "1"  # else ipykernel warns that Python's own modules cannot be debugged
@@ -521,6 +523,35 @@ class InAKernel(unittest.TestCase):
         (said, _), = self.shown("page.run.drop(2)\nprint(page.run.drops)\npage.close()")
         self.assertEqual(said, "3\n")
         self.assertRaises(OSError, asked, page, "state")
+
+
+class Waiting(unittest.TestCase):
+    def test_ctrl_c_at_any_moment(self):
+        for number in itertools.count():
+            page, steps, ended = sandpile.play((2, 2), 7, port=0, browser=False, wait=False), itertools.count(), []
+
+            def trace(frame, event, _):
+                if ended or frame.f_code.co_filename not in (playing.__file__, threading.__file__):
+                    return None
+                if frame.f_code.co_name != "wait" and next(steps) == number:
+                    ended.append("stopped")
+                    raise KeyboardInterrupt
+                return trace
+
+            def sleep(_):
+                ended.append("asleep")
+                raise KeyboardInterrupt
+
+            before = sys.gettrace()
+            with mock.patch.object(playing.time, "sleep", sleep):
+                sys.settrace(trace)
+                try:
+                    page.wait()
+                finally:
+                    sys.settrace(before)
+            self.assertFalse(page.is_open)
+            if ended == ["asleep"]:
+                break
 
 
 class ByName(unittest.TestCase):
