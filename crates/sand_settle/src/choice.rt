@@ -16,7 +16,7 @@ ghost use Rattle.sand_settle.specs.Rests.{ComesToRest};
 use crate::queue::topple_to_rest;
 use sand_certify::certified;
 use sand_guess::{Claim, guessed, is_flat, is_high, is_small, swept, toppled};
-use sand_model::{Edge, Pile, Shape, TOPPLING_HEIGHT};
+use sand_model::{Edge, Pile, PileFault, Shape, TOPPLING_HEIGHT};
 use std::alloc::{AllocError, Global};
 
 // The turns that the queue has before a guess is tried: a number per site, and more in addition. They take about as long
@@ -140,7 +140,10 @@ fn part_around(alloc: Global, pile: &Pile, site: usize) -> Result<Option<Pile>, 
         let at = first.wrapping_add(y.wrapping_mul(width)).wrapping_add(x);
         heights[here] = pile.heights().get(at).copied().unwrap_or(0);
     }
-    Ok(Pile::new(alloc, shape, &heights).ok())
+    match Pile::new(alloc, shape, &heights) {
+        Err(PileFault::Memory(error)) => Err(error),
+        part => Ok(part.ok()),
+    }
 }
 
 // Whether the sand around a site of a flooded pile soon comes to rest, and stays in a small part of the grid.
