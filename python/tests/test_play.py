@@ -562,7 +562,12 @@ class ByName(unittest.TestCase):
 
     def test_until_ctrl_c(self):
         words = self.words("--shape", "5", "7", "--cylinder", "--seed", "7", "--port", "0", "--no-browser")
-        with subprocess.Popen(words, stdout=subprocess.PIPE, stderr=subprocess.PIPE, text=True, env=MODULE, cwd=new_folder(self)) as process:
+        pipes = {"stdout": subprocess.PIPE, "stderr": subprocess.PIPE, "text": True}
+
+        def heed():
+            signal.signal(signal.SIGINT, signal.SIG_DFL)  # what a shell starts by `&` ignores it
+
+        with subprocess.Popen(words, **pipes, env=MODULE, cwd=new_folder(self), preexec_fn=heed) as process:
             watch = threading.Timer(SECONDS, process.kill)  # so that nothing below waits for ever
             watch.start()
             try:
