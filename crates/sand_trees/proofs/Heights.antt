@@ -1,5 +1,5 @@
 -- The heights that directions and depths give, site by site: those of the pile of a tree, if all are below 4.
-use Rattle.sand_trees.proofs.Common.{ℕ, cond, ltb, ◌≡◌, ◌+◌, ◌-◌, ◌*◌, ◌/◌, ◌%◌, ◌<◌, ◌≤◌, ◌==◌, ◌||◌, min, Bool, true, false, ◌∙◌, sym, ap, subst, arith, inl, inr, List, [], ◌∷◌, length, take, get_or, count_by, sum, cases_Bool, cases_eq, cases_lt, nat_tests, get_or-set_same, get_or-set_other, length-take, take_all, count_by-le-length, count_by_more_yes, count_by_more_no, Grid, IsGrid, sites, is_inner, IsStable, some_width, row_above, row_below, IsRecurrent}
+use Rattle.sand_trees.proofs.Common.{ℕ, cond, ltb, ◌≡◌, ◌+◌, ◌-◌, ◌*◌, ◌/◌, ◌%◌, ◌<◌, ◌≤◌, ◌==◌, ◌||◌, min, Bool, true, false, ◌∙◌, ap, arith, inl, inr, List, [], ◌∷◌, length, take, get_or, count_by, sum, cases_Bool, cases_eq, cases_lt, nat_tests, get_or-set_same, get_or-set_other, length-set, refl, slice_index, length-take, take_all, count_by-le-length, count_by_more_yes, count_by_more_no, Grid, IsGrid, sites, is_inner, IsStable, some_width, row_above, row_below, IsRecurrent}
 use Rattle.std.proofs.Math.ListN.{set}
 use Rattle.std.proofs.lemmas.List.Elements.{All-from_get_or}
 use Rattle.std.proofs.lemmas.Nat.{div-mul-add, mod-mul-add}
@@ -7,7 +7,7 @@ use Rattle.sand_model.specs.Grid.{north, west, east, south}
 use Rattle.sand_group.proofs.OperationsOnHeights.{few_grains}
 use Rattle.sand_model.specs.Piles.{most_grains_on}
 use Rattle.sand_trees.specs.Trees.{depths_around, edges_below, edges_passed, IsTree, IsPileOfTree}
-use Rattle.sand_trees.specs.Depths.{IsHeightAmong, IsHeightAt}
+use Rattle.sand_trees.specs.Depths.{AreHeightsBefore, IsHeightAmong, IsHeightAt}
 use Rattle.sand_trees.proofs.Edges.{around_parent}
 use Rattle.sand_trees.proofs.Layers.{tree_stable, tree_recurrent}
 
@@ -50,7 +50,7 @@ among xs depth way below passed own v n len is_below is_passed is_own wrong heig
     }
 
 -- the same of a site, by the depths around it
-pub at_site : (g : Grid) (dir d : ℕ → ℕ) (i t way n : ℕ) (xs : List ℕ) → xs ≡ depths_around g d i → t ≡ d i → way ≡ dir i
+at_site : (g : Grid) (dir d : ℕ → ℕ) (i t way n : ℕ) (xs : List ℕ) → xs ≡ depths_around g d i → t ≡ d i → way ≡ dir i
     → IsHeightAmong xs t way n → IsHeightAt g dir d i n
 unfolding edges_below edges_passed
 at_site g dir d i t way n xs is at_depth at_way among =
@@ -61,15 +61,32 @@ at_site g dir d i t way n xs is at_depth at_way among =
       few = one.few;
     }
 
--- what holds of each entry before one still holds after it is set, and of it
-pub one_more_set : (P : ℕ → ℕ → Type 0) (xs : List ℕ) (i v : ℕ) {ys : List ℕ} → ys ≡ set xs i v → i < length xs
-    → ((k : ℕ) → k < i → P k (get_or xs k 0)) → P i v → (k : ℕ) → k < i + 1 → P k (get_or ys k 0)
-one_more_set P xs i v {ys} e inside before here k l = elim (cases_eq k i) [
-  | inl same ↦ subst (λ j. P j (get_or ys j 0)) (sym same)
-      (subst (P i) (sym (ap (λ (zs : List ℕ). get_or zs i 0) e ∙ get_or-set_same xs i v 0 inside)) here)
-  | inr other ↦ subst (P k) (sym (ap (λ (zs : List ℕ). get_or zs k 0) e ∙ get_or-set_other xs i k v 0 other))
-      (before k (omega arith))
-]
+-- the height of one more site is written
+pub heights_more : {g : Grid} {ways depths heights : List ℕ} {i n : ℕ} {xs : List ℕ}
+    → AreHeightsBefore i g ways depths heights → i < sites g → xs ≡ depths_around g (slice_index depths) i
+    → IsHeightAmong xs (slice_index depths i) (slice_index ways i) n → AreHeightsBefore (i + 1) g ways depths (set heights i n)
+heights_more {g} {ways} {depths} {heights} {i} {n} before inside is among =
+    let At : ℕ → ℕ → Type 0 = IsHeightAt g (slice_index ways) (slice_index depths) in
+    let here : At i n = at_site g (slice_index ways) (slice_index depths) i _ _ n _ is refl refl among in
+    let room : i < length heights = omega (arith, before.heights_each) in
+    record {
+      directions_each = before.directions_each;
+      depths_each = before.depths_each;
+      heights_each = length-set heights i n ∙ before.heights_each;
+      each = λ k l. elim (cases_eq k i) [
+        | inl same ↦ rw (same, get_or-set_same heights i n 0 room) here
+        | inr other ↦ rw (get_or-set_other heights i k n 0 other) (before.each k (omega arith))
+      ];
+    }
+
+pub heights_fewer : {g : Grid} {ways depths heights : List ℕ} {n : ℕ} (m : ℕ) → AreHeightsBefore n g ways depths heights → m ≤ n
+    → AreHeightsBefore m g ways depths heights
+heights_fewer m before few = record {
+  directions_each = before.directions_each;
+  depths_each = before.depths_each;
+  heights_each = before.heights_each;
+  each = λ k l. before.each k (omega arith);
+}
 
 -- between the ends of a row that is neither the first nor the last
 pub inner_row : (g : Grid) (y k : ℕ) → 0 < y → y + 1 < g.height → y * g.width < k → k + 1 < y * g.width + g.width

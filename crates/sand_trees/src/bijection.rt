@@ -5,7 +5,7 @@ ghost use Rattle.sand_model.specs.Grid.{IsGrid, is_inner, sites};
 ghost use Rattle.sand_model.specs.Piles.{height_of};
 ghost use Rattle.sand_group.specs.BurningTimes.{AreBurningTimes};
 ghost use Rattle.sand_trees.specs.Trees.{IsTree, IsPileOfTree, direction_of, depth_of};
-ghost use Rattle.sand_trees.specs.Depths.{AreLayers, IsHeightAt};
+ghost use Rattle.sand_trees.specs.Depths.{AreHeightsBefore, AreLayers};
 
 use crate::around::{count_below, depths_around, depths_at_edge, height_among, pick};
 use crate::tree::Tree;
@@ -22,14 +22,9 @@ fn write_some(
     from: usize,
     to: usize,
 )
-    requires directions { length directions.now ≡ sites shape }
-    requires depths { length depths.now ≡ sites shape }
-    requires heights { length heights.old ≡ sites shape }
+    requires before { AreHeightsBefore from shape directions.now depths.now heights.old }
     requires inside { to ≤ sites shape }
-    requires before { (k : ℕ) → k < from
-        → IsHeightAt shape (slice_index directions.now) (slice_index depths.now) k (slice_index heights.old k) }
-    ensures { (k : ℕ) → k < to
-        → IsHeightAt shape (slice_index directions.now) (slice_index depths.now) k (slice_index heights.new k) }
+    ensures { AreHeightsBefore to shape directions.now depths.now heights.new }
 {
     for site in from..to {
         let around = depths_at_edge(shape, depths, site);
@@ -46,15 +41,10 @@ fn write_inner(
     from: usize,
     to: usize,
 )
-    requires directions { length directions.now ≡ sites shape }
-    requires depths { length depths.now ≡ sites shape }
-    requires heights { length heights.old ≡ sites shape }
+    requires before { AreHeightsBefore from shape directions.now depths.now heights.old }
     requires inside { to ≤ sites shape }
     requires inner { (k : ℕ) → from ≤ k → k < to → IsTrue (is_inner shape k) }
-    requires before { (k : ℕ) → k < from
-        → IsHeightAt shape (slice_index directions.now) (slice_index depths.now) k (slice_index heights.old k) }
-    ensures { (k : ℕ) → k < to
-        → IsHeightAt shape (slice_index directions.now) (slice_index depths.now) k (slice_index heights.new k) }
+    ensures { AreHeightsBefore to shape directions.now depths.now heights.new }
 {
     let width = shape.width();
     for site in from..to {
@@ -73,8 +63,7 @@ fn write_heights(shape: Shape, directions: &[u8], depths: &[u32], heights: &mut 
     requires directions { length directions.now ≡ sites shape }
     requires depths { length depths.now ≡ sites shape }
     requires heights { length heights.old ≡ sites shape }
-    ensures { (k : ℕ) → k < sites shape
-        → IsHeightAt shape (slice_index directions.now) (slice_index depths.now) k (slice_index heights.new k) }
+    ensures { AreHeightsBefore (sites shape) shape directions.now depths.now heights.new }
 {
     let width = shape.width();
     let mut done = 0;

@@ -10,9 +10,8 @@ from_vec-pile-requires-clause-limit c =
     let back = take_at heights (drop (length heights) c.in_ok-heights.heights.items) c.in_ok-heights.heights.len
     (omega (arith, c.write_heights.auto.heights, c.deref_mut.ensures.len)) in
     let same = c.in_ok-widened.ensures ∙ c.deref.ensures.value ∙ back in
-    let few = few_heights c.args.shape _ _ heights c.sites.ensures.sides
-    (omega (arith, c.write_heights.auto.heights, c.deref_mut.ensures.len, c.in_ok-heights.ensures.len, c.sites.ensures.value))
-    c.write_heights.ensures in
+    let few = few_heights c.args.shape _ _ heights c.sites.ensures.sides c.write_heights.ensures.heights_each
+    c.write_heights.ensures.each in
     omega (arith, ap sum same)
 
 pub returns-then-not-is_stable-clause-pile : goal.returns-then-not-is_stable-clause-pile
@@ -22,7 +21,7 @@ returns-then-not-is_stable-clause-pile c =
     (omega (arith, c.write_heights.auto.heights, c.deref_mut.ensures.len)) in
     let same = c.in_ok-widened.ensures ∙ c.deref.ensures.value ∙ back in
     let stable = rw (c.from_vec-pile.ensures, same) at c.is_stable.ensures in
-    no_tree c.args.shape _ _ (slice_index heights) c.write_heights.ensures
+    no_tree c.args.shape _ _ (slice_index heights) c.write_heights.ensures.each
     (λ low. let is = stable.1 low in grind (arith, c.if-not-is_stable.true))
 
 pub known-requires : goal.known-requires
@@ -33,7 +32,7 @@ known-requires c =
     let same = c.in_ok-widened.ensures ∙ c.deref.ensures.value ∙ back in
     let stable = rw (c.from_vec-pile.ensures, same) at c.is_stable.ensures in
     rw (c.from_vec-pile.ensures, same)
-    (tree_of_heights c.args.shape _ _ (slice_index heights) c.write_heights.ensures
+    (tree_of_heights c.args.shape _ _ (slice_index heights) c.write_heights.ensures.each
     (stable.0 (grind (arith, c.if-not-is_stable.false)))).2
 
 pub returns-clause-pile : goal.returns-clause-pile
@@ -44,5 +43,5 @@ returns-clause-pile c =
     let same = c.in_ok-widened.ensures ∙ c.deref.ensures.value ∙ back in
     let stable = rw (c.from_vec-pile.ensures, same) at c.is_stable.ensures in
     rw (c.known.ensures, c.from_vec-pile.ensures, same)
-    (tree_of_heights c.args.shape _ _ (slice_index heights) c.write_heights.ensures
+    (tree_of_heights c.args.shape _ _ (slice_index heights) c.write_heights.ensures.each
     (stable.0 (grind (arith, c.if-not-is_stable.false)))).1

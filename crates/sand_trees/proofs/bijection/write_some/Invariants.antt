@@ -1,9 +1,5 @@
-use Rattle.sand_trees.proofs.Common.{ℕ, ◌≡◌, ◌<◌, length, slice_index, sites}
-use Rattle.sand_trees.specs.Depths.{IsHeightAt}
+use Rattle.sand_trees.specs.Depths.{AreHeightsBefore}
 use Rattle.sand_trees.proofs.bijection.write_some.Given as goal
 
 abbrev pub invariant-loop-site : goal.invariant-loop-site
-invariant-loop-site l = record {
-  len : length l.heights ≡ sites l.shape;
-  each : (k : ℕ) → k < l.site → IsHeightAt l.shape (slice_index l.directions) (slice_index l.depths) k (slice_index l.heights k);
-}
+invariant-loop-site l = AreHeightsBefore l.site l.fn.shape l.directions l.depths l.heights
