@@ -21,6 +21,6 @@ unshown held mid held' ending kept ends = grind (arith, common_steps, appends_af
 pub unhelped : (words : List (List ℕ)) (left left' held mid held' : Option (List ℕ)) (fault ending : DeskFault)
     → TellsWords words fault → HelpsIfAsked words fault → EndsBy (call_of words left left' held mid) fault
     → status_of fault ≡ 0 → IsUnhelped fault mid held' ending
-    → IsUnperformed words (call_of words left left' held held') ending
+    → IsUnperformed (call_of words left left' held held') ending
 unhelped words left left' held mid held' fault ending told asked ends is_help unshown_then =
     grind (arith, common_steps, misuse, unshown)

@@ -1,5 +1,5 @@
 -- What a command does: the text that it writes for an input, the fault that it finds in it, and how it ends.
-use Rattle.std.specs.Prelude.{ℕ, ⊤, ◌≡◌, ◌↔◌, ◌⊎◌, ◌+◌, ◌<◌, ◌≤◌, Bool, true, false, List, length, take, Option, Some, None}
+use Rattle.std.specs.Prelude.{ℕ, ⊤, ◌≡◌, ◌↔◌, ◌⊎◌, ◌+◌, ◌<◌, ◌≤◌, Bool, true, false, List, length, take, Option, Some, None, Result, OnOk, IfErr}
 use Rattle.std.specs.Io.KnownBytes.{Appends, Keeps}
 use Rattle.sand_model.specs.Grid.{Grid}
 use Rattle.sand_model.specs.Piles.{most_grains_on}
@@ -44,9 +44,10 @@ abbrev pub IsFaultOf : Task → List ℕ → DeskFault → Type 0
 IsFaultOf (task.Lab wish journal form) input fault = IsLabFault wish input fault
 IsFaultOf task input fault = IsFaultWithoutLab task input fault
 
--- a call of the program: the task that its words ask for, and before and after it, what the reader still has and what
--- the writer holds
+-- a call of the program: its words, the task that they ask for, and before and after it, what the reader still has and
+-- what the writer holds
 pub record Call : Type 0 where
+  pub words : List Text
   pub asked : Option Task
   pub left : Option (List ℕ)
   pub left_after : Option (List ℕ)
@@ -55,6 +56,7 @@ pub record Call : Type 0 where
 
 abbrev pub call_of : List Text → Option (List ℕ) → Option (List ℕ) → Option (List ℕ) → Option (List ℕ) → Call
 call_of words left left_after held held_after = record {
+  words = words;
   asked = asked words;
   left = left;
   left_after = left_after;
@@ -146,3 +148,10 @@ EndsBy call desk.TooLong = IsFlooded call
 EndsBy call desk.Memory = IsStarved call
 EndsBy call (desk.Write sent) = IsCutShort call sent
 EndsBy call fault = IsFaulty call fault
+
+-- how a command ends: it is done, or it fails, and what the fault says of the words is true
+pub record CommandEnds (call : Call) (result : Result (Unit {0}) DeskFault) : Type 0 where
+  pub done : OnOk result (IsDone call)
+  pub fault : IfErr result (EndsBy call)
+  pub help : IfErr result (HelpsIfAsked call.words)
+  pub told : IfErr result (TellsWords call.words)

@@ -1,10 +1,8 @@
 //! Does what the words ask for: runs a command or shows its help, or writes a text of the program itself.
 
-ghost use Rattle.std.specs.Prelude.{◌≡◌, ◌≢◌, ◌<◌, IfErr, OnOk, length, map, string_bytes};
-ghost use Rattle.sand_commands.specs.Faults.{status_of};
-ghost use Rattle.sand_desk.specs.Answering.{IsAnswer, IsNoAnswer};
-ghost use Rattle.sand_desk.specs.Commands.{TellsWords, call_of};
-ghost use Rattle.sand_desk.specs.Helping.{IsPerformed, IsUnperformed};
+ghost use Rattle.std.specs.Prelude.{◌<◌, length, map, string_bytes};
+ghost use Rattle.sand_desk.specs.Answering.{RequestEnds};
+ghost use Rattle.sand_desk.specs.Commands.{call_of};
 
 use crate::commands::run_gated_command;
 use sand_cli::{Asked, Request};
@@ -16,7 +14,7 @@ use std::alloc::Global;
 use std::io::{Read, Write};
 use std::thread::Threads;
 
-// Like `run_gated_command`, but shows the help if the words ask for it. No returned fault has status 0.
+// Like `run_gated_command`, but shows the help if the words ask for it.
 fn run_or_help<T: Threads + Sync, G: Gate, R: Read, W: Write>(
     rt: &T,
     alloc: Global,
@@ -26,12 +24,8 @@ fn run_or_help<T: Threads + Sync, G: Gate, R: Read, W: Write>(
     writer: &mut W,
 ) -> Result<(), DeskFault>
     requires { 0 < length words.now }
-    ensures done { OnOk result (IsPerformed (map string_bytes words.now) (call_of (map string_bytes words.now)
-        (R.remaining reader.old) (R.remaining reader.new) (W.contents writer.old) (W.contents writer.new))) }
-    ensures fault { IfErr result (IsUnperformed (map string_bytes words.now) (call_of (map string_bytes words.now)
-        (R.remaining reader.old) (R.remaining reader.new) (W.contents writer.old) (W.contents writer.new))) }
-    ensures told { IfErr result (TellsWords (map string_bytes words.now)) }
-    ensures status { IfErr result (λ e. status_of e ≢ 0) }
+    ensures { RequestEnds Request.Command (call_of (map string_bytes words.now) (R.remaining reader.old)
+        (R.remaining reader.new) (W.contents writer.old) (W.contents writer.new)) result }
 {
     let Err(fault) = run_gated_command(rt, alloc, gate, words, reader, writer) else {
         return Ok(());
@@ -52,14 +46,8 @@ pub fn answer<T: Threads + Sync, G: Gate, R: Read, W: Write>(
     output: &mut W,
 ) -> Result<(), DeskFault>
     requires { 0 < length asked.words.now }
-    ensures done { OnOk result (IsAnswer asked.entry.request (map string_bytes asked.entry.words.now)
-        (call_of (map string_bytes asked.entry.words.now)
-        (R.remaining input.old) (R.remaining input.new) (W.contents output.old) (W.contents output.new))) }
-    ensures fault { IfErr result (IsNoAnswer asked.entry.request (map string_bytes asked.entry.words.now)
-        (call_of (map string_bytes asked.entry.words.now)
-        (R.remaining input.old) (R.remaining input.new) (W.contents output.old) (W.contents output.new))) }
-    ensures told { IfErr result (TellsWords (map string_bytes asked.entry.words.now)) }
-    ensures status { IfErr result (λ e. status_of e ≢ 0) }
+    ensures { RequestEnds asked.entry.request (call_of (map string_bytes asked.entry.words.now) (R.remaining input.old)
+        (R.remaining input.new) (W.contents output.old) (W.contents output.new)) result }
 {
     match asked.request {
         Request::Version => write_version(output),

@@ -5,7 +5,7 @@
 ghost use Rattle.std.specs.Prelude.{◌≡◌, ◌<◌, length, map, string_bytes, IfErr, OnOk};
 ghost use Rattle.sand_cli.specs.Asked.{IsWithin};
 ghost use Rattle.sand_commands.specs.Commands.{IsWritten, WorkEnds};
-ghost use Rattle.sand_desk.specs.Commands.{IsTextOf, IsFaultOf, IsDone, EndsBy, HelpsIfAsked, TellsWords, call_of};
+ghost use Rattle.sand_desk.specs.Commands.{CommandEnds, IsFaultOf, IsTextOf, call_of};
 
 use crate::laboratory::{Output, lab_input};
 use sand_cli::{Task, task_of};
@@ -58,12 +58,8 @@ pub fn run_command<T: Threads + Sync, R: Read, W: Write>(
     writer: &mut W,
 ) -> Result<(), DeskFault>
     requires { 0 < length words.now }
-    ensures done { OnOk result (IsDone (call_of (map string_bytes words.now)
-        (R.remaining reader.old) (R.remaining reader.new) (W.contents writer.old) (W.contents writer.new))) }
-    ensures fault { IfErr result (EndsBy (call_of (map string_bytes words.now)
-        (R.remaining reader.old) (R.remaining reader.new) (W.contents writer.old) (W.contents writer.new))) }
-    ensures help { IfErr result (HelpsIfAsked (map string_bytes words.now)) }
-    ensures told { IfErr result (TellsWords (map string_bytes words.now)) }
+    ensures { CommandEnds (call_of (map string_bytes words.now) (R.remaining reader.old) (R.remaining reader.new)
+        (W.contents writer.old) (W.contents writer.new)) result }
 {
     run_gated_command(rt, alloc, &Open, words, reader, writer)
 }
@@ -79,12 +75,8 @@ pub fn run_gated_command<T: Threads + Sync, G: Gate, R: Read, W: Write>(
     writer: &mut W,
 ) -> Result<(), DeskFault>
     requires { 0 < length words.now }
-    ensures done { OnOk result (IsDone (call_of (map string_bytes words.now)
-        (R.remaining reader.old) (R.remaining reader.new) (W.contents writer.old) (W.contents writer.new))) }
-    ensures fault { IfErr result (EndsBy (call_of (map string_bytes words.now)
-        (R.remaining reader.old) (R.remaining reader.new) (W.contents writer.old) (W.contents writer.new))) }
-    ensures help { IfErr result (HelpsIfAsked (map string_bytes words.now)) }
-    ensures told { IfErr result (TellsWords (map string_bytes words.now)) }
+    ensures { CommandEnds (call_of (map string_bytes words.now) (R.remaining reader.old) (R.remaining reader.new)
+        (W.contents writer.old) (W.contents writer.new)) result }
 {
     let task = task_of(alloc, words)?;
     let input = take_input(alloc, task, reader)?;
