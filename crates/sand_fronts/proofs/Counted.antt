@@ -85,11 +85,17 @@ marked_more {z = z} first second = record {
   );
 }
 
+-- a place has toppled once more, or as often as before, and is marked if it has
+record IsMarkedMore (c d : Count) (a b p : ℕ) : Type 0 where
+  more : ℕ
+  once : more ≤ 1
+  marked : bit b p ≡ max (bit a p) more
+  counts : counted d p ≡ counted c p + more
+
 -- the places of a set are counted and marked in tile k
 marked_at : {k word : ℕ} {c d : Counts} (x y : ℕ → ℕ) (m p : ℕ) → p < 64 → AddsSet k word c d
     → y m ≡ cond (eqb m k) (bit_or (x m) word) (x m)
-    → (w : ℕ) × (w ≤ 1) × (bit (y m) p ≡ max (bit (x m) p) w)
-    × (counted (counts_of d m) p ≡ counted (counts_of c m) p + w)
+    → IsMarkedMore (counts_of c m) (counts_of d m) (x m) (y m) p
 marked_at {k} {word} {c} {d} x y m p low added marks =
     let f = either (x m) word p in
     let g = both_le (x m) word p in
@@ -97,7 +103,12 @@ marked_at {k} {word} {c} {d} x y m p low added marks =
     let one = bit_le word p in
     let here = added.here p low in
     let other : m ≢ k → counted (counts_of d m) p ≡ counted (counts_of c m) p = λ ne. added.others m p ne low in
-    (cond (eqb m k) (bit word p) 0, grind (arith, nat_tests), grind (arith, nat_tests), grind (arith, nat_tests))
+    record {
+      more = cond (eqb m k) (bit word p) 0;
+      once = grind (arith, nat_tests);
+      marked = grind (arith, nat_tests);
+      counts = grind (arith, nat_tests);
+    }
 
 pub marked_one : {k word : ℕ} {c d : Counts} (x y : ℕ → ℕ) → AddsSet k word c d
     → ((m : ℕ) → y m ≡ cond (eqb m k) (bit_or (x m) word) (x m)) → AreMarked (counts_of c) (counts_of d) x y

@@ -49,9 +49,14 @@ pub column_there : (g : Grid) (k p : ℕ) → is_site g k p ≡ true → column 
 unfolding site_on
 column_there g k p is = mod-mul-add (row_at g k p) g.width (column_at g k p) (in_grid g k p is).wide
 
+-- a place has a site, which is at this place
+pub record HasSite (g : Grid) (k p : ℕ) : Type 0 where
+  pub inside : site_on g k p < sites g
+  pub tile : tile_of g (site_on g k p) ≡ k
+  pub place : place_of g (site_on g k p) ≡ p
+
 -- from a place that is a site to the site, and back
-pub there_again : (g : Grid) (k p : ℕ) → p < 64 → is_site g k p ≡ true
-    → (site_on g k p < sites g) × (tile_of g (site_on g k p) ≡ k) × (place_of g (site_on g k p) ≡ p)
+pub there_again : (g : Grid) (k p : ℕ) → p < 64 → is_site g k p ≡ true → HasSite g k p
 unfolding tile_of place_of site_on
 there_again g k p low is =
     let w = g.width in
@@ -62,11 +67,12 @@ there_again g k p low is =
     let rd : (r * w + c) / w ≡ r = div-mul-add r w c bounds.wide in
     let cd = column_there g k p is in
     let r8 : r / 8 + 2 ≡ k / pitch g = omega arith in
-    let c8 : c / 8 + 1 ≡ k % pitch g = omega arith in (
-      mul-add-lt r w c g.height bounds.high bounds.wide,
-      rw (rd, cd) (ap (λ t. t * pitch g + (c / 8 + 1)) r8 ∙ omega arith),
-      rw (rd, cd) (omega arith),
-    )
+    let c8 : c / 8 + 1 ≡ k % pitch g = omega arith in
+    record {
+      inside = mul-add-lt r w c g.height bounds.high bounds.wide;
+      tile = rw (rd, cd) (ap (λ t. t * pitch g + (c / 8 + 1)) r8 ∙ omega arith);
+      place = rw (rd, cd) (omega arith);
+    }
 
 pub at_on : (g : Grid) (v : ℕ → ℕ) (j : ℕ) → j < sites g → at_site g (on_tiles g v) j ≡ v j
 unfolding on_tiles
@@ -93,7 +99,7 @@ unfolding on_tiles
 on_place g k p P low there off = ⊎_elim
     (λ (is : is_site g k p ≡ true).
     let t = there_again g k p low is in
-    subst (λ b. P (λ v. cond b (v (site_on g k p)) 0)) (sym is) (there (site_on g k p) t.0 t.1 t.2))
+    subst (λ b. P (λ v. cond b (v (site_on g k p)) 0)) (sym is) (there (site_on g k p) t.inside t.tile t.place))
     (λ (no : is_site g k p ≡ false). subst (λ b. P (λ v. cond b (v (site_on g k p)) 0)) (sym no) (off no))
     (cases_Bool (is_site g k p))
 

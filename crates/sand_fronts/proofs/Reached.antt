@@ -9,9 +9,14 @@ use Rattle.sand_fronts.proofs.OnTiles.{place_below, back_again, there_again, in_
 
 -- ---- place by place
 
-pub lowest : (n : ℕ) → n ≢ 0 → n < 2 ^ 64 → (trailing_zeros w64 n < 64) × (bit n (trailing_zeros w64 n) ≡ 1)
+-- a place is in a set
+pub record IsIn (set place : ℕ) : Type 0 where
+  pub low : place < 64
+  pub is : bit set place ≡ 1
+
+pub lowest : (n : ℕ) → n ≢ 0 → n < 2 ^ 64 → IsIn n (trailing_zeros w64 n)
 unfolding bit
-lowest n some fits = let l = bit_at-trailing_zeros w64 n (omega arith) fits in (l.0, l.1)
+lowest n some fits = let l = bit_at-trailing_zeros w64 n (omega arith) fits in record { low = l.0; is = l.1 }
 
 -- a place is taken out of a set
 pub record IsTaken (rest next place : ℕ) : Type 0 where
@@ -27,8 +32,8 @@ taken rest one some fits is =
     let place = trailing_zeros w64 rest in
     let first = lowest rest some fits in
     record {
-      inside = first.0;
-      was = first.1;
+      inside = first.low;
+      was = first.is;
       each = λ p low.
           let h = half rest one p in
           let b = both_le rest one p in
@@ -138,7 +143,7 @@ farthest_site g site are in_sets far =
       tile = m;
       here = p;
       is = is;
-      inside = (there_again g m p.place p.low is).0;
+      inside = (there_again g m p.place p.low is).inside;
       distant = distance_on g site m p.place is ∙ p.there;
     }
 

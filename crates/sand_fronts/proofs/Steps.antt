@@ -50,14 +50,18 @@ pays_put free τ k start new t visits = cond_each (λ m x. Pays (τ m) x (free m
       modulo = λ p l. omega (arith, around_none (λ q. 0) p l (λ q x. refl), height_low (τ m) p);
     }))
 
+-- the wave after a visit of tile k, whose sites in the set `new` have toppled
+pub record HasToppled (g : Grid) (site : ℕ) (h : ℕ → ℕ) (τ σ : ℕ → Tile) (away : ℕ → ℕ → ℕ) (k new : ℕ) : Type 0 where
+  pub wave : IsUnderWay g site h σ away
+  pub once : (j : ℕ) → toppled g σ j ≡ toppled g τ j + at_site g (only k (bit new)) j
+
 -- a tile is visited: its sites topple, and the grains that leave it are under way
 pub visited_wave : {g : Grid} {site : ℕ} {h free : ℕ → ℕ} {τ : ℕ → Tile} {away : ℕ → ℕ → ℕ} {t : Tile} {k start new : ℕ}
     {b : Beside} (s : ℕ) (more : ℕ → ℕ → ℕ) → IsStart g site h free → IsUnderWay g site h τ away
     → Starts g site s k start → toppled g τ site + s ≤ 1
     → IsInner g k → IsBeside g k b → Visits (τ k) t (free k) start new → new < 2 ^ 64
     → ((m p : ℕ) → more m p ≡ away m p + over_rim b new m p)
-    → IsUnderWay g site h (put k t τ) more
-    × ((j : ℕ) → toppled g (put k t τ) j ≡ toppled g τ j + at_site g (only k (bit new)) j)
+    → HasToppled g site h τ (put k t τ) more k new
 visited_wave {g} {site} {free = free} {τ} {t = t} {k} {start} {new} {b} s more from wave begins first ik beside visits
     fits sums =
     let u = toppled g τ in let v = toppled g (put k t τ) in
@@ -70,8 +74,9 @@ visited_wave {g} {site} {free = free} {τ} {t = t} {k} {start} {new} {b} s more 
     λ j l. flow_same g v (λ i. u i + n i) (λ i m. sum i) j l ∙ flow-add g u n j
     ∙ ap (λ f. flow g u j + f) (gained g k new b j l ik beside fits
     (λ y x less out. newly from k s begins visits (tile g y x) (place y x) (omega arith)
-    ∙ on_tiles_blank g n y x less out)) in (
-      record {
+    ∙ on_tiles_blank g n y x less out)) in
+    record {
+      wave = record {
         inside = λ m p l. omega
             (arith, (pays m).once p l, newly from k s begins visits m p l, on_sum g u n v m p l (λ j less. sum j));
         at_open = λ j l ne.
@@ -81,6 +86,6 @@ visited_wave {g} {site} {free = free} {τ} {t = t} {k} {start} {new} {b} s more 
             let pays' = (pays (tile_of g site)).modulo (place_of g site) (place_below g site) in
             omega (arith, flows site from.inside, sums (tile_of g site) (place_of g site));
         needed = λ w covers j l. omega (arith, sum j, needed_next from s wave begins first w covers visits j l);
-      },
-      sum,
-    )
+      };
+      once = sum;
+    }

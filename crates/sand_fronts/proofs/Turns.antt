@@ -32,7 +32,12 @@ pub record HasTurn (g : Grid) (site free : ℕ) (t : Tile) (k : ℕ) (b : Beside
   pub tile : AtTile g k b
   pub ready : IsReady t free 0
 
--- the turns of two tiles have come; `rest` lists the others that wait
+-- the turn of a tile has come; `rest` lists the others that wait
+pub record IsNext (g : Grid) (site : ℕ) (free : ℕ → ℕ) (τ : ℕ → Tile) (j : ℕ) (b : Beside) (rest : List ℕ) : Type 0 where
+  pub turn : HasTurn g site (free j) (τ j) j b
+  pub waiting : Lists (tiles g) (but j (waits τ)) rest
+
+-- the same of two tiles
 pub record HaveTurns (g : Grid) (site : ℕ) (free : ℕ → ℕ) (τ : ℕ → Tile) (j k : ℕ) (b c : Beside) (rest : List ℕ)
     : Type 0 where
   pub different : j ≢ k
@@ -65,14 +70,19 @@ few_topplings g τ = at_most_all (sites g) (toppled g τ) (λ j l. bit_le _ _)
 
 -- ---- the list of tiles
 
+-- a number passes, and the list has the others that do
+record IsFirst (n k : ℕ) (p : ℕ → Bool) (others : List ℕ) : Type 0 where
+  passes : p k ≡ true
+  listed : Lists n (but k p) others
+
 -- the first tile that waits has its turn, and the others wait
 front_of : (n position next k : ℕ) (p : ℕ → Bool) (list : List ℕ)
     → Lists n p (drop position list) → position < length list → next ≡ position + 1 → k ≡ get_or list position 0
-    → (p k ≡ true) × Lists n (but k p) (drop next list)
+    → IsFirst n k p (drop next list)
 front_of n position next k p list all less more is =
     let whole : drop position list ≡ k ∷ drop next list = rw (more, add-one, is) (drop-cons list position 0 less) in
     let whole' = rw whole at all in
-    (front_passes n p (drop next list) k whole', grind (arith, nat_tests, common_steps))
+    record { passes = front_passes n p (drop next list) k whole'; listed = grind (arith, nat_tests, common_steps) }
 
 -- before the first turn no tile waits
 pub none_wait : (n k : ℕ) (τ : ℕ → Tile) → IsNoneDue τ → Lists n (but k (waits τ)) []
@@ -111,20 +121,27 @@ first_kept n k t τ clear inside = record {
   on_board = λ i less. let e : i ≡ 0 = omega arith in rw e inside;
 }
 
+-- the kept tiles, of which there is one more at most
+pub record HasKept (n kept next : ℕ) (list : List ℕ) (τ : ℕ → Tile) : Type 0 where
+  pub all : AreKept n list next τ
+  pub few : next ≤ kept + 1
+
 -- a tile whose turn has come is written behind them if no site of it has toppled, and is visited
 pub keep_one : {n kept next : ℕ} {τ : ℕ → Tile} {list : List ℕ} {t : Tile} (k : ℕ) (new : Tile) → AreKept n list kept τ
     → k < n → kept < length list → t ≡ τ k → t.wave < 2 ^ 64 → next ≡ cond (eqb t.wave 0) (kept + 1) kept
-    → AreKept n (set list kept k) next (put k new τ) × (next ≤ kept + 1)
+    → HasKept n kept next (set list kept k) (put k new τ)
 keep_one {n} {kept} {next} {τ} {list} {t} k new all inside less read fits is =
-    let range : (kept ≤ next) × (next ≤ kept + 1) = grind (arith, nat_tests) in
+    let more : kept ≤ next = grind (arith, nat_tests) in
+    let few : next ≤ kept + 1 = grind (arith, nat_tests) in
     let stays : (m : ℕ) → IsListed list 0 kept m → IsListed (set list kept k) 0 next m = λ m at.
     record {
       index = at.index;
       low = at.low;
       high = omega (arith, at.high);
       is = get_or-set_other list kept at.index k 0 (λ e. omega (arith, at.high)) ∙ at.is;
-    } in (
-      record {
+    } in
+    record {
+      all = record {
         listed = cond_each (λ m x. IsClear x ⊎ IsListed (set list kept k) 0 next m) τ k new
             (⊎_elim
             (λ (clear : IsClear (τ k)).
@@ -139,9 +156,9 @@ keep_one {n} {kept} {next} {τ} {list} {t} k new all inside less read fits is =
             (λ (at : IsListed list 0 kept k). inr (stays k at)) (all.listed k))
             (λ m ne. ⊎_elim inl (λ (at : IsListed list 0 kept m). inr (stays m at)) (all.listed m));
         on_board = λ i below. let before = all.on_board i in grind (arith, nat_tests, common_steps);
-      },
-      range.1,
-    )
+      };
+      few = few;
+    }
 
 -- ---- between two turns
 
@@ -151,7 +168,8 @@ pub record HasVisited (g : Grid) (site : ℕ) (h free : ℕ → ℕ) (τ : ℕ �
   pub turn : IsTurn g site h free τ away 0 position
   pub waiting : Lists (tiles g) left (drop position list)
   pub all_kept : AreKept (tiles g) list kept τ
-  pub order : (kept ≤ position) × (position ≤ length list)
+  pub few_kept : kept ≤ position
+  pub in_list : position ≤ length list
 
 -- all grains have arrived: what is left to visit is what waits
 abbrev pub IsOn : Grid → ℕ → (ℕ → ℕ) → (ℕ → ℕ) → (ℕ → Tile) → List ℕ → ℕ → ℕ → Type 0
@@ -167,16 +185,16 @@ module _ {g : Grid} {site : ℕ} {h free : ℕ → ℕ} where
       let some = ltb-true 0 a wait in
       let low = lowest a (λ e. omega arith) (omega arith) in
       let p = trailing_zeros w64 a in
-      let one = sym (cut (τ k).due p low.0) ∙ low.1 in
-      let yes = open_site g site free k p turn.from.all_open low.0 (omega (arith, bit_le (free k) p)) in
-      let t = there_again g k p low.0 yes.0 in
+      let one = sym (cut (τ k).due p low.low) ∙ low.is in
+      let yes = open_site g site free k p turn.from.all_open low.low (omega (arith, bit_le (free k) p)) in
+      let t = there_again g k p low.low yes.is in
       record {
         j = site_on g k p;
-        inside = t.0;
-        other = yes.1;
-        here = t.1;
-        due = ap (bit (τ k).due) t.2 ∙ one;
-        tile = rw t.1 at (board.each (site_on g k p) t.0);
+        inside = t.inside;
+        other = yes.other;
+        here = t.tile;
+        due = ap (bit (τ k).due) t.place ∙ one;
+        tile = rw t.tile at (board.each (site_on g k p) t.inside);
         ready = wave_ready turn.from k 0 0 turn.wave (starts_none g site k) (omega arith);
       }
 
@@ -191,12 +209,12 @@ module _ {g : Grid} {site : ℕ} {h free : ℕ → ℕ} where
       let u : ℕ → ℕ = at_site g (only k (bit new)) in
       let next = visited_wave s more turn.from turn.wave begins (omega arith) (rw here at (inner g j inside)) beside
       visits fits sums in
-      let all = sum_below_same (sites g) (toppled g (put k t τ)) (λ i. toppled g τ i + u i) (λ i m. next.1 i)
+      let all = sum_below_same (sites g) (toppled g (put k t τ)) (λ i. toppled g τ i + u i) (λ i m. next.once i)
       ∙ sum_below-add (sites g) (toppled g τ) u in
       let topples : u j ≡ 1 = only_same k (tile_of g j) (bit new) (place_of g j) here ∙ one in
       record {
         from = turn.from;
-        wave = next.0;
+        wave = next.wave;
         due_free = cond_each (λ m x. (p : ℕ) → p < 64 → bit x.due p ≤ bit (free m) p) τ k t
             (λ p low. rw visits.none_due (omega (arith, bit_none p))) (λ m ne. turn.due_free m);
         started = omega (arith, bit_le (put k t τ (tile_of g site)).wave (place_of g site));
@@ -257,7 +275,7 @@ module _ {g : Grid} {site : ℕ} {h free : ℕ → ℕ} where
       → HasVisited g site h free τ away left l.items kept position → IsOn g site h free σ m.items kept position
   turn_over {τ} {σ} {position = position} gains joins visited =
       let turn = visited.turn in
-      let order = visited.order in
+      let few_kept = visited.few_kept in
       let same : (j : ℕ) → toppled g σ j ≡ toppled g τ j =
       λ j. gains.wave (tile_of g j) (place_of g j) (place_below g j) in
       let sums = sum_below_same (sites g) (toppled g σ) (toppled g τ) (λ j l. same j) in
@@ -269,9 +287,10 @@ module _ {g : Grid} {site : ℕ} {h free : ℕ → ℕ} where
           started = omega (arith, same site, turn.started);
           count = omega (arith, turn.count);
         };
-        waiting = waiting_from joins position order.1 visited.waiting;
+        waiting = waiting_from joins position visited.in_list visited.waiting;
         all_kept = kept_on visited.all_kept (λ t less. kept_before joins t (omega arith)) gains.wave;
-        order = (order.0, omega (arith, longer joins));
+        few_kept = few_kept;
+        in_list = omega (arith, visited.in_list, longer joins);
       }
 
   -- the list never has more tiles than there are sites and tiles
@@ -290,11 +309,10 @@ module _ {g : Grid} {site : ℕ} {h free : ℕ → ℕ} where
       (on : IsOn g site h free τ list kept position) (is : j ≡ get_or list position 0) where
     -- the tile at the position has its turn
     pub next_one : position < length list
-        → HasTurn g site (free j) (τ j) j (beside_at all j)
-        × Lists (tiles g) (but j (waits τ)) (drop (position + 1) list)
+        → IsNext g site free τ j (beside_at all j) (drop (position + 1) list)
     next_one less =
         let one = front_of (tiles g) position (position + 1) j (waits τ) list on.waiting less refl is in
-        (has_turn j board on.turn one.0, one.1)
+        record { turn = has_turn j board on.turn one.passes; waiting = one.listed }
 
     -- the next two have their turns, and are not the same
     pub next_two : {k : ℕ} → position + 1 < length list → k ≡ get_or list (position + 1) 0
@@ -302,6 +320,10 @@ module _ {g : Grid} {site : ℕ} {h free : ℕ → ℕ} where
     next_two {k} less is' =
         let one = next_one (omega arith) in
         let two =
-        front_of (tiles g) (position + 1) (position + 2) k (but j (waits τ)) list one.1 less (omega arith) is' in
-        let parts : (j ≢ k) × (waits τ k ≡ true) = (λ e. grind (arith, nat_tests), grind (arith, nat_tests)) in
-        record { different = parts.0; one = one.0; two = has_turn k board on.turn parts.1; waiting = two.1 }
+        front_of (tiles g) (position + 1) (position + 2) k (but j (waits τ)) list one.waiting less (omega arith) is' in
+        record {
+          different = λ e. grind (arith, nat_tests);
+          one = one.turn;
+          two = has_turn k board on.turn (grind (arith, nat_tests));
+          waiting = two.listed;
+        }

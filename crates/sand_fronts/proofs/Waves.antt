@@ -51,11 +51,17 @@ arrived {g} {site} {τ = τ} wave = record {
 }
 
 -- a free place is a site that is not held
+pub record IsFreeSite (g : Grid) (site k p : ℕ) : Type 0 where
+  pub is : is_site g k p ≡ true
+  pub other : site_on g k p ≢ site
+
 pub open_site : (g : Grid) (site : ℕ) (free : ℕ → ℕ) (k p : ℕ) → AreOpen g site free → p < 64 → bit (free k) p ≡ 1
-    → (is_site g k p ≡ true) × (site_on g k p ≢ site)
+    → IsFreeSite g site k p
 unfolding on_tiles
-open_site g site free k p open' low is =
-    (grind (arith, nat_tests), λ (same : site_on g k p ≡ site). grind (arith, nat_tests))
+open_site g site free k p open' low is = record {
+  is = grind (arith, nat_tests);
+  other = λ same. grind (arith, nat_tests);
+}
 
 module _ {g : Grid} {site : ℕ} {h free : ℕ → ℕ} (from : IsStart g site h free) where
   pub free_at : (j : ℕ) → j < sites g → j ≢ site → bit (free (tile_of g j)) (place_of g j) ≡ 1
@@ -82,13 +88,13 @@ module _ {g : Grid} {site : ℕ} {h free : ℕ → ℕ} (from : IsStart g site h
       record {
         low = λ p l is.
             let yes = open_site g site free k p from.all_open l is in
-            let at = there_again g k p l yes.0 in let j = site_on g k p in
-            let open' = rw (at.1, at.2) at (wave.at_open j at.0 yes.1) in
+            let at = there_again g k p l yes.is in let j = site_on g k p in
+            let open' = rw (at.tile, at.place) at (wave.at_open j at.inside yes.other) in
             let le = around_le (unused (free k) start (τ k).wave) (on_tiles g rest k) p l (λ q m. (each q m).0) in
-            let some = rw (at.1, at.2) at (around_some g rest j at.0) in
+            let some = rw (at.tile, at.place) at (around_some g rest j at.inside) in
             let most = flow_four_at_most g (λ i. t i + rest i)
-            (λ i m. omega (arith, bit_le (τ (tile_of g i)).wave (place_of g i))) j at.0 in
-            omega (arith, from.low j at.0 yes.1, flow-add g t rest j);
+            (λ i m. omega (arith, bit_le (τ (tile_of g i)).wave (place_of g i))) j at.inside in
+            omega (arith, from.low j at.inside yes.other, flow-add g t rest j);
         held = λ p l. (each p l).1;
       }
 
@@ -115,13 +121,13 @@ module _ {g : Grid} {site : ℕ} {h free : ℕ → ℕ} (from : IsStart g site h
               omega (arith, begins p low);
           at_most_three = λ p low is.
               let yes = open_site g site free k p from.all_open low is in
-              let at = there_again g k p low yes.0 in let j = site_on g k p in
-              let open' = rw (at.1, at.2) at (wave.at_open j at.0 yes.1) in
-              let three = covers.at_most_three j at.0 yes.1 in
-              let some = rw (at.1, at.2) at (around_some g rest j at.0) in
-              let site = on_site g rest k p yes.0 in
-              let same = flow_same g (λ i. t i + rest i) w (λ i l. omega (arith, below i l)) j at.0 in
-              omega (arith, below j at.0, on_site g t k p yes.0, wave.inside k p low, flow-add g t rest j);
+              let at = there_again g k p low yes.is in let j = site_on g k p in
+              let open' = rw (at.tile, at.place) at (wave.at_open j at.inside yes.other) in
+              let three = covers.at_most_three j at.inside yes.other in
+              let some = rw (at.tile, at.place) at (around_some g rest j at.inside) in
+              let site = on_site g rest k p yes.is in
+              let same = flow_same g (λ i. t i + rest i) w (λ i l. omega (arith, below i l)) j at.inside in
+              omega (arith, below j at.inside, on_site g t k p yes.is, wave.inside k p low, flow-add g t rest j);
         }
 
     -- and topples the sites that topple in a visit

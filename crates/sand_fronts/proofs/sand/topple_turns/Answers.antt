@@ -1,12 +1,12 @@
 -- Between two turns the tiles from the position on are those that wait, and the kept ones before it are those to count
 -- (`IsOn`): so writing a kept one disturbs none that waits. Each turn topples a new site, so the list has room
 -- (`few_listed`), and the turns end (`few_topplings`).
-use Rattle.sand_fronts.proofs.Common.{ℕ, ◌+◌, ◌<◌, ◌∙◌, refl, sym, ap, length, drop, arith, set, ne_eqb, length-set, length-take-le, drop_all, drop-set-lt, get_or-take, Lists, one_at, tiles, beside_at, over_rim, AtTile, waits, but, tiles_of, free_of}
+use Rattle.sand_fronts.proofs.Common.{ℕ, ◌+◌, ◌<◌, ◌∙◌, refl, sym, ap, length, drop, arith, set, ne_eqb, length-set, length-take-le, drop_all, drop-set-lt, get_or-take, one_at, tiles, beside_at, over_rim, AtTile, tiles_of, free_of}
 use Rattle.sand_fronts.proofs.OnTiles.{place_below}
 use Rattle.sand_fronts.proofs.Gained.{tile_read}
 use Rattle.sand_fronts.proofs.OneSite.{start_of}
 use Rattle.sand_fronts.proofs.Waves.{Starts, arrived, wave_ready}
-use Rattle.sand_fronts.proofs.Turns.{HasTurn, turn_none, turn_first, turn_one, turn_two, turn_over, next_one, next_two, first_kept, keep_one, kept_on, none_wait, few_topplings, few_listed, none_left}
+use Rattle.sand_fronts.proofs.Turns.{IsNext, turn_none, turn_first, turn_one, turn_two, turn_over, next_one, next_two, first_kept, keep_one, kept_on, none_wait, few_topplings, few_listed, none_left}
 use Rattle.sand_fronts.proofs.sand.topple_turns.Goals.{After-set_of, After-item-k}
 use Rattle.sand_fronts.proofs.sand.topple_turns.Goals as goal
 
@@ -51,22 +51,21 @@ turns-init c =
             c.requires.drop.tile (starts d) tile.each v.visits v.fits;
         waiting = none_wait n k (tiles_of c.args.sand) rest.quiet.none_due;
         all_kept = first_kept n k v.tile (tiles_of c.args.sand) rest.quiet.clear tile.inside;
-        order = (omega arith, omega arith);
+        few_kept = omega arith;
+        in_list = omega arith;
       };
     }
 
 -- the tile at the position has its turn
 one : (c : After-item-k)
-    → HasTurn c.args.board.now.shape c.args.drop.site (free_of c.args.board.now c.item-k.result)
-    (tiles_of c.turns.sand c.item-k.result) c.item-k.result (beside_at c.args.board.now.beside.items c.item-k.result)
-    × Lists (tiles c.args.board.now.shape) (but c.item-k.result (waits (tiles_of c.turns.sand)))
-    (drop (c.turns.position + 1) c.turns.sand.list.items)
+    → IsNext c.args.board.now.shape c.args.drop.site (free_of c.args.board.now) (tiles_of c.turns.sand) c.item-k.result
+    (beside_at c.args.board.now.beside.items c.item-k.result) (drop (c.turns.position + 1) c.turns.sand.list.items)
 one c = next_one c.requires.board.beside c.turns.invariant.on c.item-k.ensures
     (omega (arith, c.turns-test.true, c.len.ensures.value))
 
 pub index-requires : goal.index-requires
 index-requires c =
-    let at = (one (goal.at.index-requires c).After-item-k).0.tile in
+    let at = (one (goal.at.index-requires c).After-item-k).turn.tile in
     omega (arith, at.inside, c.turns.invariant.sand.len)
 
 pub turns-smaller : goal.turns-smaller
@@ -87,7 +86,7 @@ index-requires-then-position-len c =
 
 pub keep_if-kept-requires-clause-fits : goal.keep_if-kept-requires-clause-fits
 keep_if-kept-requires-clause-fits c =
-    let at = (one (goal.at.keep_if-kept-requires-clause-fits c).After-item-k).0.tile in
+    let at = (one (goal.at.keep_if-kept-requires-clause-fits c).After-item-k).turn.tile in
     omega (arith, at.inside, c.requires.board.beside.fits)
 
 pub keep_if-kept-requires-then-position-len-clause-fits : goal.keep_if-kept-requires-then-position-len-clause-fits
@@ -130,15 +129,16 @@ turns-preserved-then-position-len c =
     let one_in = t.one.tile.inside in
     let two_in = t.two.tile.inside in
     let apart = ne_eqb other k (λ e. t.different (sym e)) in
-    let order = on.order in
+    let few_kept = on.few_kept in
+    let in_list = on.in_list in
     let kept = keep_one k steps.one.tile on.all_kept one_in (omega arith)
     (tile_read ts k c.index.result.now (omega arith) c.index.ensures) (omega arith) c.keep_if-kept.ensures.next in
-    let few = kept.1 in
-    let both = keep_one {t = c.index-then-position-len.result.now} other steps.two.tile kept.0 two_in
+    let few = kept.few in
+    let both = keep_one {t = c.index-then-position-len.result.now} other steps.two.tile kept.all two_in
     (omega (arith, length-set {A = ℕ}))
     (rw apart (tile_read ts other c.index-then-position-len.result.now (omega arith) c.index-then-position-len.ensures))
     (omega arith) c.keep_if-kept-then-position-len.ensures.next in
-    let few' = both.1 in
+    let few' = both.few in
     record {
       sand = c.topple_pair.ensures.sand;
       on = turn_over steps.gains
@@ -150,8 +150,9 @@ turns-preserved-then-position-len c =
               drop-set-lt next (set list c.turns.kept k) c.keep_if-kept.result other (omega arith),
               drop-set-lt next list c.turns.kept k (omega arith),
             ) t.waiting;
-            all_kept = both.0;
-            order = (omega arith, omega (arith, length-set {A = ℕ}));
+            all_kept = both.all;
+            few_kept = omega arith;
+            in_list = omega (arith, length-set {A = ℕ});
           };
     }
 
@@ -166,14 +167,14 @@ topple_tile-requires-else-position-len c =
       board = c.requires.board;
       row = c.requires.row;
       sand = record { len = c.turns.invariant.sand.len; room = room };
-      tile = t.0.tile;
-      ready = t.0.ready;
+      tile = t.turn.tile;
+      ready = t.turn.ready;
       room = omega (arith, length-set {A = ℕ});
     })
 
 pub keep_if-kept-requires-else-position-len-clause-fits : goal.keep_if-kept-requires-else-position-len-clause-fits
 keep_if-kept-requires-else-position-len-clause-fits c =
-    let at = (one (goal.at.keep_if-kept-requires-else-position-len-clause-fits c).After-item-k).0.tile in
+    let at = (one (goal.at.keep_if-kept-requires-else-position-len-clause-fits c).After-item-k).turn.tile in
     omega (arith, at.inside, c.requires.board.beside.fits)
 
 pub turns-preserved : goal.turns-preserved
@@ -184,25 +185,27 @@ turns-preserved c =
     let next = c.turns.position + 1 in
     let long = c.turns.invariant.sand.len in
     let t = one (goal.at.turns-preserved c).After-item-k in
-    let inside = t.0.tile.inside in
+    let inside = t.turn.tile.inside in
     let steps = c.topple_tile-else-position-len.ensures.steps in
     let v = steps.visited in
     let within : c.turns.position < length list = omega (arith, c.turns-test.true, c.len.ensures.value) in
-    let order = on.order in
+    let few_kept = on.few_kept in
+    let in_list = on.in_list in
     let kept = keep_one k v.tile on.all_kept inside (omega arith)
     (tile_read c.turns.sand.tiles.items k c.index.result.now (omega arith) c.index.ensures) (omega arith)
     c.keep_if-kept-else-position-len.ensures.next in
-    let few = kept.1 in
+    let few = kept.few in
     record {
       sand = c.topple_tile-else-position-len.ensures.sand;
       on = turn_over steps.gains
           (rw c.keep_if-kept-else-position-len.ensures.list at c.topple_tile-else-position-len.ensures.joins)
           record {
-            turn = turn_one (over_rim (beside_at c.args.board.now.beside.items k) v.new) on.turn t.0 v.visits v.fits
+            turn = turn_one (over_rim (beside_at c.args.board.now.beside.items k) v.new) on.turn t.turn v.visits v.fits
                 (λ m p. omega arith);
-            waiting = rw (drop-set-lt next list c.turns.kept k (omega arith)) t.1;
-            all_kept = kept.0;
-            order = (omega arith, omega (arith, length-set {A = ℕ}));
+            waiting = rw (drop-set-lt next list c.turns.kept k (omega arith)) t.waiting;
+            all_kept = kept.all;
+            few_kept = omega arith;
+            in_list = omega (arith, length-set {A = ℕ});
           };
     }
 
@@ -223,7 +226,8 @@ pub returns-clause-kept : goal.returns-clause-kept
 returns-clause-kept c =
     let on = c.turns.invariant.on in
     let list = c.turns.sand.list.items in
-    let order = on.order in
+    let few_kept = on.few_kept in
+    let in_list = on.in_list in
     let long = length-take-le c.turns.kept list (omega arith) in
     rw (c.truncate.ensures, long)
     (kept_on on.all_kept (λ t less. get_or-take c.turns.kept list t 0 less) (λ m p low. refl))
