@@ -3,11 +3,8 @@
 //! `settle` returns new lists, and keeps the pile. A caller that has lists for the result, and settles many small piles,
 //! saves the copies: a stable pile takes no memory, and a light one only that of the queue.
 
-ghost use Rattle.std.specs.Prelude.{◌≡◌, ℕ, ◌<◌, ◌≤◌, length, sum, slice_index, IfOk, IsTrue, OnErr};
-ghost use Rattle.sand_model.specs.Grid.{IsGrid, sites};
-ghost use Rattle.sand_model.specs.Piles.{most_grains_on};
-ghost use Rattle.sand_settle.specs.InPlace.{record_in_place};
-ghost use Rattle.sand_settle.specs.Settling.{IsSettledRecord};
+ghost use Rattle.std.specs.Prelude.{◌≡◌, ℕ, ◌<◌, ◌≤◌, length, sum, slice_index, IsTrue};
+ghost use Rattle.sand_settle.specs.InPlace.{IsInPlace, SettlesInPlace};
 
 use crate::choice::is_light;
 use crate::faults::SettleFault;
@@ -15,7 +12,7 @@ use crate::queue::topple_to_rest;
 use crate::settled::sum_of;
 use crate::settling::settle;
 use sand_model::{Pile, Shape, TOPPLING_HEIGHT};
-use std::alloc::{AllocError, Global};
+use std::alloc::Global;
 
 /// The number of topplings, and of grains lost.
 #[derive(Clone, Copy, Debug, PartialEq, Eq)]
@@ -35,31 +32,6 @@ fn are_stable(heights: &[u64]) -> bool
     are_low
 }
 
-fn settle_light(
-    alloc: Global,
-    shape: Shape,
-    heights: &mut [u64],
-    odometer: &mut [u64],
-    grains: u64,
-) -> Result<Totals, AllocError>
-    requires sides { IsGrid shape }
-    requires heights_each { length heights.old ≡ sites shape }
-    requires odometer_each { length odometer.old ≡ sites shape }
-    requires limit { sum heights.old ≤ most_grains_on shape }
-    requires counted { grains ≡ sum heights.old }
-    ensures record { IfOk result (λ t. IsSettledRecord shape (slice_index heights.old)
-        (record_in_place shape heights.new odometer.new t)) }
-    ensures heights { OnErr result (heights.new ≡ heights.old) }
-    ensures odometer { OnErr result (odometer.new ≡ odometer.old) }
-{
-    let is_settled = topple_to_rest(alloc, shape, heights, odometer, u64::MAX)?;
-    prove!(is_settled);
-    let topplings = sum_of(odometer);
-    let left = sum_of(heights);
-    let lost = grains - left;
-    Ok(Totals { topplings, lost })
-}
-
 fn settle_copy(
     alloc: Global,
     shape: Shape,
@@ -67,14 +39,9 @@ fn settle_copy(
     odometer: &mut [u64],
     grains: u64,
 ) -> Result<Totals, SettleFault>
-    requires heights_each { length heights.old ≡ sites shape }
-    requires odometer_each { length odometer.old ≡ sites shape }
-    requires limit { sum heights.old ≤ most_grains_on shape }
+    requires place { IsInPlace shape heights.old odometer.old }
     requires counted { grains ≡ sum heights.old }
-    ensures record { IfOk result (λ t. IsSettledRecord shape (slice_index heights.old)
-        (record_in_place shape heights.new odometer.new t)) }
-    ensures heights { OnErr result (heights.new ≡ heights.old) }
-    ensures odometer { OnErr result (odometer.new ≡ odometer.old) }
+    ensures { SettlesInPlace shape heights.old odometer.old heights.new odometer.new result }
 {
     let copy = Vec::from_slice(alloc, heights)?;
     let start = Pile::from_counted(shape, copy, grains);
@@ -95,13 +62,8 @@ pub fn settle_in_place(
     heights: &mut [u64],
     odometer: &mut [u64],
 ) -> Result<Totals, SettleFault>
-    requires heights_each { length heights.old ≡ sites shape }
-    requires odometer_each { length odometer.old ≡ sites shape }
-    requires limit { sum heights.old ≤ most_grains_on shape }
-    ensures record { IfOk result (λ t. IsSettledRecord shape (slice_index heights.old)
-        (record_in_place shape heights.new odometer.new t)) }
-    ensures heights { OnErr result (heights.new ≡ heights.old) }
-    ensures odometer { OnErr result (odometer.new ≡ odometer.old) }
+    requires { IsInPlace shape heights.old odometer.old }
+    ensures { SettlesInPlace shape heights.old odometer.old heights.new odometer.new result }
 {
     if are_stable(heights) {
         odometer.fill(0);
@@ -111,8 +73,13 @@ pub fn settle_in_place(
         });
     }
     let grains = sum_of(heights);
-    if is_light(shape, grains) {
-        return Ok(settle_light(alloc, shape, heights, odometer, grains)?);
+    if !is_light(shape, grains) {
+        return settle_copy(alloc, shape, heights, odometer, grains);
     }
-    settle_copy(alloc, shape, heights, odometer, grains)
+    let is_settled = topple_to_rest(alloc, shape, heights, odometer, u64::MAX)?;
+    prove!(is_settled);
+    let topplings = sum_of(odometer);
+    let left = sum_of(heights);
+    let lost = grains - left;
+    Ok(Totals { topplings, lost })
 }

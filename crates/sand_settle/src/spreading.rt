@@ -4,7 +4,7 @@ ghost use Rattle.std.specs.Prelude.{◌≡◌, ℕ, ◌+◌, ◌*◌, ◌^◌, �
 ghost use Rattle.sand_model.specs.Grid.{Grid, IsGrid, sites, places};
 ghost use Rattle.sand_model.specs.Sand.{one_at, value_at};
 ghost use Rattle.sand_settle.specs.SiteLists.{UnstableJoin};
-ghost use Rattle.sand_settle.specs.Underway.{NeighboursGain};
+ghost use Rattle.sand_settle.specs.Spreading.{NeighboursGain};
 
 use sand_model::{IndexList, Lattice, TOPPLING_HEIGHT};
 

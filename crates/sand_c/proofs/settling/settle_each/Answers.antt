@@ -13,11 +13,14 @@ copied : (c : After-copy_from_slice)
 copied c = c.copy_from_slice.ensures.after ∙ c.heights_at.ensures.value
     ∙ ap (λ n. slice_chunk c.args.heights.now n c.loop-next.next) c.sites-sites.ensures.value
 
-pub settle_in_place-requires-clause-limit : goal.settle_in_place-requires-clause-limit
-settle_in_place-requires-clause-limit c =
-    rw (copied (goal.at.settle_in_place-requires-clause-limit c).After-copy_from_slice)
-    (each_within (most_grains_on c.args.shape) (sites c.args.shape) c.args.heights.now c.args.count c.requires.within
-    c.loop-next.next c.loop-next-test.true)
+pub settle_in_place-requires : goal.settle_in_place-requires
+settle_in_place-requires c = record {
+  heights_each = search rules;
+  odometer_each = search rules;
+  limit = rw (copied (goal.at.settle_in_place-requires c).After-copy_from_slice)
+      (each_within (most_grains_on c.args.shape) (sites c.args.shape) c.args.heights.now c.args.count c.requires.within
+      c.loop-next.next c.loop-next-test.true);
+}
 
 pub loop-next-preserved : goal.loop-next-preserved
 loop-next-preserved c =
@@ -28,7 +31,7 @@ loop-next-preserved c =
     record_in_place g c.settle_in_place.new.heights c.settle_in_place.new.odometer c.in-Ok.totals in
     let settled : IsSettledRecord g (slice_index (slice_chunk c.args.heights.now (sites g) next)) r =
     subst (λ (hs : List ℕ). IsSettledRecord g (slice_index hs) r)
-    (copied (goal.at.loop-next-preserved c).After-copy_from_slice) c.in-Ok.ensures.record in
+    (copied (goal.at.loop-next-preserved c).After-copy_from_slice) c.in-Ok.ensures.settled in
     record {
       records = one_more g c.args.heights.now next c.loop-next.all _ r was.records settled (record {
         heights = rw c.in_ok-extend_from_slice.was at c.extend_from_slice.ensures.items;

@@ -1,4 +1,4 @@
--- A pile that is being settled, with its heights in one list and the sites that topple in another.
+-- What a toppling gives to the neighbours of its site.
 use Rattle.std.specs.Prelude.{ℕ, ◌≡◌, ◌+◌, ◌*◌, ◌<◌, List, slice_index}
 use Rattle.sand_model.specs.Grid.{Grid, sites}
 use Rattle.sand_model.specs.Sand.{one_at, flow}
