@@ -1,9 +1,11 @@
 -- The list of waves: one wave more, and those of one drop more.
-use Rattle.sand_c.proofs.Common.{◌≡◌, ◌+◌, ◌<◌, ◌≤◌, ℕ, suc, List, [], ◌∷◌, ◌++◌, length, take, set, get_or, refl, sym, ◌∙◌, ap, ap₂, subst, arith, take-add, length-take-le, take_more, drop_more, set_at, take_at, drop_at, drop-drop, append_assoc, append-nil, sites, most_to_edge, Avalanche, DrivenView, grid_of_driven, Drops, waves_from, AreWavesOf, AreWaves}
+use Rattle.sand_c.proofs.Common.{◌≡◌, ◌+◌, ◌<◌, ◌≤◌, ℕ, suc, List, [], ◌∷◌, ◌++◌, length, take, set, get_or, refl, sym, ◌∙◌, ap, ap₂, arith, take-add, length-take-le, take_more, drop_more, set_at, take_at, drop_at, drop-drop, append_assoc, sites, most_to_edge, Avalanche, DrivenView, grid_of_driven, waves_from, AreWavesOf, AreWaves}
 use Rattle.std.proofs.Common.{drop}
 use Rattle.sand_model.proofs.Edges.{none_farther}
 use Rattle.sand_fronts.proofs.WaveSizes.{written_whole}
-use Rattle.sand_settle.specs.Waves.{HasDroppedInWaves}
+use Rattle.std.proofs.lemmas.List.{flat_map_more}
+use Rattle.sand_settle.proofs.Drops.{drops_push}
+use Rattle.sand_settle.specs.Waves.{HasDropped, HasDroppedInWaves}
 use Rattle.sand_c.specs.declared.waves.SandpileWave.{SandpileWave}
 
 abbrev wave_is : ℕ → ℕ → ℕ → SandpileWave
@@ -55,17 +57,18 @@ module _ {v w : DrivenView} {site n : ℕ} {a : Avalanche} {before after : List 
     pub sizes_each : length (take n after) ≡ n
     sizes_each = length-take-le n after (omega (arith, has.waves.written.len, few_waves, room))
 
-    pub is_written : {number : ℕ} {waves now : List SandpileWave} → number ≡ v.number
+    pub is_written : {number : ℕ} {waves now : List SandpileWave} → HasDropped v site number a w
         → now ≡ waves_from number 0 (take n after) ++ drop (length (take n after)) waves → IsWritten v site n waves now w
-    is_written {number} {waves} {now} number_is is =
+    is_written {number} {waves} {now} dropped is =
         let first : List SandpileWave = waves_from v.number 0 (take n after) in
         let long : length first ≡ n = one_each v.number 0 (take n after) ∙ sizes_each in
         let parts : now ≡ first ++ drop n waves =
-        is ∙ ap₂ (λ k m. waves_from k 0 (take n after) ++ drop m waves) number_is sizes_each in
+        is ∙ ap₂ (λ k m. waves_from k 0 (take n after) ++ drop m waves) dropped.number sizes_each in
         let all : take n after ≡ has.waves.sizes = ap (λ k. take k after) (sym has.waves.each)
         ∙ written_whole has.waves.written (omega (arith, has.waves.each, few_waves, room)) in
         record {
           waves = record {
+            drops = dropped.drops.drops;
             sizes = has.waves.sizes;
             lead = has.waves.lead;
             waves_are = ap (take n) parts ∙ take_at first (drop n waves) n long ∙ ap (waves_from v.number 0) all;
@@ -75,21 +78,13 @@ module _ {v w : DrivenView} {site n : ℕ} {a : Avalanche} {before after : List 
 
 -- the list, with the waves of one drop more
 pub waves_more : (v u w : DrivenView) (drops : List ℕ) (waves : List SandpileWave) (site : ℕ) (last : List SandpileWave)
-    → AreWaves v drops waves u → Drops u site w → AreWavesOf u site last w
-    → AreWaves v (drops ++ site ∷ []) (waves ++ last) w
-waves_more v u w [] waves site last (none, same) drop is =
-    let P : DrivenView → Type 0 = λ x. AreWaves x (site ∷ []) (waves ++ last) w in
-    let Q : List SandpileWave → Type 0 = λ xs. AreWaves u (site ∷ []) (xs ++ last) w in
-    subst P (sym same) (subst Q (sym none) (w, last, [], drop, is, sym (append-nil last), (refl, refl)))
-waves_more v u w (x ∷ xs) waves site last (m, first, others, drops, its, e, rest) drop is = (
-  m,
-  first,
-  others ++ last,
-  drops,
-  its,
-  ap (λ l. l ++ last) e ∙ append_assoc first others last,
-  waves_more m u w xs others site last rest drop is,
-)
+    → AreWaves v drops waves u → AreWavesOf u site last w → AreWaves v (drops ++ site ∷ []) (waves ++ last) w
+waves_more v u w drops waves site last so_far is = record {
+  each = so_far.each ++ last ∷ [];
+  dropped = drops_push AreWavesOf v u w drops so_far.each site last so_far.dropped is;
+  waves_are = ap (λ l. l ++ last) so_far.waves_are
+      ∙ flat_map_more (λ (those : List SandpileWave). those) [] so_far.each last;
+}
 
 -- what a list begins with, and what is behind that, if its end is written to
 module _ (front rest : List SandpileWave) (n k : ℕ) (len : length front ≡ n) where

@@ -1,10 +1,11 @@
 -- What `sandpile_drive_waves` does.
-use Rattle.std.specs.Prelude.{ℕ, ◌≡◌, ◌+◌, ◌*◌, ◌≤◌, nat_lt, if◌then◌else◌, List, [], ◌∷◌, ◌++◌, length, take, drop, Option, Result, Err}
+use Rattle.std.specs.Prelude.{ℕ, ◌≡◌, ◌+◌, ◌*◌, ◌≤◌, nat_lt, if◌then◌else◌, List, [], ◌∷◌, length, take, drop, Option, Result, Err}
+use Rattle.std.specs.List.{flat_map}
 use Rattle.sand_model.specs.Sand.{one_at}
 use Rattle.sand_model.specs.Piles.{height_of}
 use Rattle.sand_model.specs.Edges.{most_to_edge}
 use Rattle.sand_settle.specs.Avalanches.{Avalanche, WavesLead}
-use Rattle.sand_settle.specs.Drops.{DrivenView, grid_of_driven, Drops}
+use Rattle.sand_settle.specs.Drops.{DrivenView, grid_of_driven, Drops, DropsWith}
 use Rattle.sand_c.specs.declared.faults.Fault.{Fault}
 use Rattle.sand_c.specs.declared.faults.Fault.TheVariants.{Length}
 use Rattle.sand_c.specs.declared.waves.SandpileWave.{SandpileWave}
@@ -27,17 +28,17 @@ waves_from n k (size ∷ sizes) = record { number = n; wave = k; size = size } �
 
 -- a drop at a site leads from v to w, and these are its waves, in order
 pub record AreWavesOf (v : DrivenView) (site : ℕ) (waves : List SandpileWave) (w : DrivenView) : Type 0 where
+  pub drops : Drops v site w
   pub sizes : List ℕ
   pub lead : WavesLead (grid_of_driven v) site (λ j. height_of v.settled.pile j + one_at site j) sizes
       (height_of w.settled.pile)
   pub waves_are : waves ≡ waves_from v.number 0 sizes
 
 -- drops at these sites lead from v to w, and the list has the waves of each, one drop after another
-abbrev pub AreWaves : DrivenView → List ℕ → List SandpileWave → DrivenView → Type 0
-AreWaves v [] waves w = (waves ≡ []) × (v ≡ w)
-AreWaves v (site ∷ drops) waves w =
-    (u : DrivenView) × (first : List SandpileWave) × (others : List SandpileWave)
-    × Drops v site u × AreWavesOf v site first u × (waves ≡ first ++ others) × AreWaves u drops others w
+pub record AreWaves (v : DrivenView) (drops : List ℕ) (waves : List SandpileWave) (w : DrivenView) : Type 0 where
+  pub each : List (List SandpileWave)
+  pub dropped : DropsWith AreWavesOf v drops each w
+  pub waves_are : waves ≡ flat_map (λ (those : List SandpileWave). those) each
 
 -- what `HaveDriven` says, and a list begins with the waves of the drops, so many; the rest of it stays
 pub record HaveDrivenInWaves (v : DrivenView) (drops : List ℕ) (avalanches : List Avalanche)

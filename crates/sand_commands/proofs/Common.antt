@@ -18,7 +18,7 @@ pub use Rattle.sand_text.proofs.Growing.{breaks_before, breaks_on, grows_on, bre
 pub use Rattle.sand_text.specs.declared.fault.StreamFault.{StreamFault}
 pub use Rattle.sand_cli.specs.declared.task.Part.{Part}
 pub use Rattle.sand_settle.specs.Settling.{SettledView, odometer_of}
-pub use Rattle.sand_settle.proofs.Drops.{after_drop, avalanche_same, avalanches_join, one_for_each}
+pub use Rattle.sand_settle.proofs.Drops.{after_drop, avalanche_same, drops_join, one_for_each}
 pub use Rattle.sand_commands.specs.Commands.{Finds, IsDropsFault, IsWritten, WorkEnds, IsElementFault, IsSumFault, IsFaultWithoutLab, IsTextWithoutLab}
 pub use Rattle.sand_commands.specs.DropsCommand.{IsOverfull, drawn_sites, with_draw, numbered, AreRows, IsDropsText, drops_in, AreNoted, is_pile}
 pub use Rattle.sand_commands.specs.Faults.{of_text, of_stream, number_of, of_shape, of_one, of_group, of_read, of_words, KeepNumbers}

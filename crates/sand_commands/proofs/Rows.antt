@@ -1,5 +1,5 @@
 -- The rows of drops, followed by more drops.
-use Rattle.sand_commands.proofs.Common.{◌≡◌, ◌∙◌, ◌+◌, ℕ, Bool, true, false, if◌then◌else◌, List, [], ◌∷◌, ◌++◌, length, refl, sym, ap, ap₂, arith, Avalanche, IsAvalanche, SettledView, DrivenView, grid_of_driven, topplings_between, Drops, Part, avalanches_join, one_for_each, AreNoted, numbered, AreRows, drops_in, is_pile}
+use Rattle.sand_commands.proofs.Common.{◌≡◌, ◌∙◌, ◌+◌, ℕ, Bool, true, false, if◌then◌else◌, List, [], ◌∷◌, ◌++◌, length, refl, sym, ap, ap₂, arith, Avalanche, IsAvalanche, SettledView, DrivenView, grid_of_driven, topplings_between, Drops, Part, HasAvalanche, drops_join, one_for_each, AreNoted, numbered, AreRows, drops_in, is_pile}
 use Rattle.sand_cli.specs.declared.task.Part.TheVariants as parts
 
 pub numbered_join : (n m : ℕ) (these others : List Avalanche) → m ≡ n + length these
@@ -17,10 +17,10 @@ pub rows_join : (n m : ℕ) (v u w : DrivenView) (sites later : List ℕ) (rows 
     → AreRows n v (sites ++ later) (rows ++ more) w
 rows_join n m v u w sites later rows more number before after = record {
   avalanches = before.avalanches ++ after.avalanches;
-  dropped = avalanches_join v u w sites later before.avalanches after.avalanches before.dropped after.dropped;
+  dropped = drops_join HasAvalanche v u w sites later before.avalanches after.avalanches before.dropped after.dropped;
   rows_are = ap₂ (λ xs ys. xs ++ ys) before.rows_are after.rows_are
       ∙ sym (numbered_join n m before.avalanches after.avalanches
-      (omega (arith, number, one_for_each v u sites before.avalanches before.dropped)));
+      (omega (arith, number, one_for_each HasAvalanche v u sites before.avalanches before.dropped)));
 }
 
 pub rows_first : (n : ℕ) (v u w : DrivenView) (site : ℕ) (sites : List ℕ) (a : Avalanche) (rows : List (ℕ × Avalanche))

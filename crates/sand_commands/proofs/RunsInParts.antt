@@ -1,6 +1,6 @@
 -- A drop depends only on its site and the pile before it, so a run that continues from the pile of another is the rest
 -- of a single run.
-use Rattle.sand_commands.proofs.Common.{common_steps, ◌≡◌, ◌∙◌, ◌+◌, ◌<◌, ◌≤◌, ℕ, List, [], ◌∷◌, ◌++◌, drop, length, refl, sym, ap, ap₂, subst, arith, get_or, Result, Ok, Err, cases_lt, ext_get_or, Grid, sites, PileView, Avalanche, IsAvalanche, DrivenView, IsAfter, Drops, grid_of_driven, topplings_between, odometer_of, avalanche_same, one_for_each, stream_sites, TextFault, pile_of, ◌>>=◌, Draw, AreAvalanches, numbered, drawn_sites, with_draw}
+use Rattle.sand_commands.proofs.Common.{common_steps, ◌≡◌, ◌∙◌, ◌+◌, ◌<◌, ◌≤◌, ℕ, List, [], ◌∷◌, ◌++◌, drop, length, refl, sym, ap, ap₂, subst, arith, get_or, Result, Ok, Err, cases_lt, ext_get_or, Grid, sites, PileView, Avalanche, IsAvalanche, DrivenView, IsAfter, Drops, grid_of_driven, topplings_between, odometer_of, avalanche_same, one_for_each, stream_sites, TextFault, pile_of, ◌>>=◌, Draw, AreAvalanches, numbered, drawn_sites, with_draw, HasAvalanche}
 use Rattle.sand_model.specs.Sand.{one_at, occurrences, IsSettled, IsStable}
 use Rattle.sand_model.proofs.Sandpile.{settled_once, settled_stable}
 use Rattle.sand_model.proofs.Underway.{underway_start, underway_end}
@@ -213,7 +213,7 @@ runs_in_parts whole first second a b c input left all one other cut uncut begun 
     let long : length begun.sites ≡ first.count =
     ap length front ∙ length-drawn n first.seed first.stream first.from first.count (first.from + first.count) refl in
     let number : second.from ≡ first.from + length one.avalanches =
-    omega (arith, cut.goes_on, long, one_for_each begun.first begun.last begun.sites one.avalanches one.dropped) in
+    omega (arith, cut.goes_on, long, one_for_each HasAvalanche begun.first begun.last begun.sites one.avalanches one.dropped) in
     let second_half = same_avalanches parts.middle uncut.last resumed.first resumed.last
     resumed.sites parts.back two.avalanches (first_half.1 ∙ calm) parts.ends two.dropped in
     let avalanches : all.avalanches ≡ one.avalanches ++ two.avalanches =

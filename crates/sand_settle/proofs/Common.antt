@@ -17,7 +17,7 @@ pub use Rattle.sand_model.proofs.IndexLists.{joins_if, waiting_behind, joins_mor
 pub use Rattle.sand_model.specs.Underway.{Advances}
 pub use Rattle.sand_settle.specs.Avalanches.{Avalanche, IsAvalanche, HasWaves}
 pub use Rattle.sand_settle.specs.Driven.{driven_record, IsDriven}
-pub use Rattle.sand_settle.specs.Drops.{IsPaid, TakesGrain, topplings_between, DrivenView, IsAfter, Drops, DropsAll, HasAvalanche, AreAvalanches, driven_view, IsOnePile, grid_of_driven}
+pub use Rattle.sand_settle.specs.Drops.{IsPaid, TakesGrain, topplings_between, DrivenView, IsAfter, Drops, DropsAll, DropsWith, driven_view, IsOnePile, grid_of_driven}
 pub use Rattle.sand_settle.specs.Near.{AgreeFar, Tells}
 pub use Rattle.sand_settle.specs.Settling.{SettledView, IsSomeSettledRecord, odometer_of, IsSettledRecord}
 pub use Rattle.sand_settle.specs.SiteLists.{may_topple, UnstableJoin}

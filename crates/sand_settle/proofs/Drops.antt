@@ -1,5 +1,5 @@
 -- One more drop on a settled pile, and the result of a list of drops.
-use Rattle.sand_settle.proofs.Common.{ℕ, suc, length, ◌≡◌, ◌+◌, ◌*◌, ◌^◌, ◌<◌, ◌≤◌, refl, sym, ◌∙◌, ap, subst, arith, List, [], ◌∷◌, ◌++◌, sum, Option, Some, None, append_assoc, ⊎_elim, MatchOption, cases_lt, length-append, append-nil, Grid, sites, missing, occurrences, one_at, grains, topplings, grain_weight, PileView, IsPile, height_of, most_grains_on, heaviest, sum_below-add, sum_below_both, sum_below_same, laplacian_sum, weight_after, settled_in_parts, settled_same, settled_stable, sum_is_grains, weight_bound, few_weigh, SettledView, IsSettledRecord, IsSomeSettledRecord, odometer_of, DrivenView, IsAfter, topplings_between, TakesGrain, Drops, DropsAll, HasAvalanche, AreAvalanches, IsPaid, driven_view, IsOnePile, Avalanche}
+use Rattle.sand_settle.proofs.Common.{ℕ, suc, length, ◌≡◌, ◌+◌, ◌*◌, ◌^◌, ◌<◌, ◌≤◌, refl, sym, ◌∙◌, ap, subst, arith, List, [], ◌∷◌, ◌++◌, sum, Option, Some, None, append_assoc, ⊎_elim, MatchOption, cases_lt, length-append, append-nil, Grid, sites, missing, occurrences, one_at, grains, topplings, grain_weight, PileView, IsPile, height_of, most_grains_on, heaviest, sum_below-add, sum_below_both, sum_below_same, laplacian_sum, weight_after, settled_in_parts, settled_same, settled_stable, sum_is_grains, weight_bound, few_weigh, SettledView, IsSettledRecord, IsSomeSettledRecord, odometer_of, DrivenView, IsAfter, topplings_between, TakesGrain, Drops, DropsAll, DropsWith, IsPaid, driven_view, IsOnePile}
 use Rattle.std.proofs.lemmas.List.Elements.{All-push}
 use Rattle.sand_model.proofs.Occurrences.{occurrences-push}
 use Rattle.sand_settle.proofs.OneRecord.{record_by_site, some_record}
@@ -203,27 +203,27 @@ drops_from number {site} {r} {q} paid seen inside room taken =
       grains = grains_after paid inside taken;
     })
 
--- ---- lists of drops with their avalanches
+-- ---- lists of drops with their results
 
-pub avalanches_join : (v u w : DrivenView) (sites later : List ℕ) (these others : List Avalanche)
-    → AreAvalanches v sites these u → AreAvalanches u later others w
-    → AreAvalanches v (sites ++ later) (these ++ others) w
-avalanches_join v u w [] later [] others same after =
-    let P : DrivenView → Type 0 = λ x. AreAvalanches x later others w in subst P (sym same) after
-avalanches_join v u w [] later (a ∷ these) others none after = absurd none
-avalanches_join v u w (site ∷ sites) later [] others none after = absurd none
-avalanches_join v u w (site ∷ sites) later (a ∷ these) others (next, first, rest) after =
-    (next, first, avalanches_join next u w sites later these others rest after)
+module _ {A : Type 0} (Drop : DrivenView → ℕ → A → DrivenView → Type 0) where
+  pub drops_join : (v u w : DrivenView) (sites later : List ℕ) (these others : List A)
+      → DropsWith Drop v sites these u → DropsWith Drop u later others w
+      → DropsWith Drop v (sites ++ later) (these ++ others) w
+  drops_join v u w [] later [] others same after =
+      let P : DrivenView → Type 0 = λ x. DropsWith Drop x later others w in subst P (sym same) after
+  drops_join v u w [] later (a ∷ these) others none after = absurd none
+  drops_join v u w (site ∷ sites) later [] others none after = absurd none
+  drops_join v u w (site ∷ sites) later (a ∷ these) others (next, first, rest) after =
+      (next, first, drops_join next u w sites later these others rest after)
 
-pub avalanches_push : (v u w : DrivenView) (sites : List ℕ) (these : List Avalanche) (site : ℕ) (a : Avalanche)
-    → AreAvalanches v sites these u → HasAvalanche u site a w
-    → AreAvalanches v (sites ++ site ∷ []) (these ++ a ∷ []) w
-avalanches_push v u w sites these site a are has =
-    avalanches_join v u w sites (site ∷ []) these (a ∷ []) are (w, has, refl)
+  pub drops_push : (v u w : DrivenView) (sites : List ℕ) (these : List A) (site : ℕ) (a : A)
+      → DropsWith Drop v sites these u → Drop u site a w
+      → DropsWith Drop v (sites ++ site ∷ []) (these ++ a ∷ []) w
+  drops_push v u w sites these site a are has = drops_join v u w sites (site ∷ []) these (a ∷ []) are (w, has, refl)
 
-pub one_for_each : (v w : DrivenView) (sites : List ℕ) (these : List Avalanche)
-    → AreAvalanches v sites these w → length these ≡ length sites
-one_for_each v w [] [] same = refl
-one_for_each v w [] (a ∷ these) none = absurd none
-one_for_each v w (site ∷ sites) [] none = absurd none
-one_for_each v w (site ∷ sites) (a ∷ these) (u, first, rest) = ap suc (one_for_each u w sites these rest)
+  pub one_for_each : (v w : DrivenView) (sites : List ℕ) (these : List A)
+      → DropsWith Drop v sites these w → length these ≡ length sites
+  one_for_each v w [] [] same = refl
+  one_for_each v w [] (a ∷ these) none = absurd none
+  one_for_each v w (site ∷ sites) [] none = absurd none
+  one_for_each v w (site ∷ sites) (a ∷ these) (u, first, rest) = ap suc (one_for_each u w sites these rest)

@@ -3,7 +3,7 @@
 use Rattle.std.specs.Prelude.{ℕ, ◌≡◌, ◌+◌, ◌-◌, ◌*◌, ◌<◌, ◌≤◌, List, [], ◌∷◌, All, length, sum, Option, IfSome, IsSome}
 use Rattle.sand_model.specs.Grid.{Grid, IsGrid, sites}
 use Rattle.sand_model.specs.Sand.{IsStable, IsSettled, one_at, occurrences, topplings, lost, weight}
-use Rattle.sand_model.specs.Piles.{PileView, IsPile, height_of, most_grains, most_grains_on, heaviest}
+use Rattle.sand_model.specs.Piles.{PileView, IsPile, height_of, most_grains_on, heaviest}
 use Rattle.sand_settle.specs.Avalanches.{Avalanche, IsAvalanche}
 use Rattle.sand_settle.specs.Settling.{SettledView, IsSettledRecord, odometer_of}
 
@@ -58,12 +58,16 @@ pub record HasAvalanche (v : DrivenView) (site : ℕ) (a : Avalanche) (w : Drive
   pub drops : Drops v site w
   pub avalanche : IsAvalanche (grid_of_driven v) site (topplings_between v.settled w.settled) a
 
--- drops at the sites of a list, one by one, lead from v to w, with these avalanches
+-- drops at the sites of a list, one by one, lead from v to w, each with a result of its own
+abbrev pub DropsWith : {A : Type 0} → (DrivenView → ℕ → A → DrivenView → Type 0)
+    → DrivenView → List ℕ → List A → DrivenView → Type 0
+DropsWith Drop v [] [] w = v ≡ w
+DropsWith Drop v (site ∷ sites) (x ∷ others) w = (u : DrivenView) × Drop v site x u × DropsWith Drop u sites others w
+DropsWith Drop v sites others w = ⊥
+
+-- the same, with these avalanches
 abbrev pub AreAvalanches : DrivenView → List ℕ → List Avalanche → DrivenView → Type 0
-AreAvalanches v [] [] w = v ≡ w
-AreAvalanches v (site ∷ sites) (a ∷ others) w =
-    (u : DrivenView) × HasAvalanche v site a u × AreAvalanches u sites others w
-AreAvalanches v sites others w = ⊥
+AreAvalanches = DropsWith HasAvalanche
 
 -- what holds of a settled record by itself: its sums are right and small, however it came about
 pub record IsPaid (r : SettledView) : Type 0 where

@@ -1,6 +1,6 @@
--- The avalanches so far are those of the drops so far, and the next drop adds its own (`avalanches_push`).
-use Rattle.sand_c.proofs.Common.{◌∙◌, ℕ, List, [], ◌∷◌, ◌++◌, subst, arith, take, get_or, length-set, take_more, take_more_set, DrivenView, IsAfter, append_assoc}
-use Rattle.sand_settle.proofs.Drops.{avalanches_push}
+-- The avalanches so far are those of the drops so far, and the next drop adds its own (`drops_push`).
+use Rattle.sand_c.proofs.Common.{◌∙◌, ℕ, List, [], ◌∷◌, ◌++◌, subst, arith, take, get_or, length-set, take_more, take_more_set, DrivenView, HasAvalanche, IsAfter, append_assoc}
+use Rattle.sand_settle.proofs.Drops.{drops_push}
 use Rattle.sand_c.proofs.dropping.drop_all.Goals as goal
 
 pub loop-next-preserved : goal.loop-next-preserved
@@ -18,7 +18,7 @@ loop-next-preserved c =
         take_more_set c.loop-next.avalanches i c.drop_grain.result
             (omega (arith, c.loop-next-test.true, was.avalanche_each)),
       )
-          (avalanches_push c.args.pile.now v w drops (take i c.loop-next.avalanches) site c.drop_grain.result
+          (drops_push HasAvalanche c.args.pile.now v w drops (take i c.loop-next.avalanches) site c.drop_grain.result
           was.avalanches dropped.drops);
       after = λ start history first. rw more (subst (λ (l : List ℕ). IsAfter start l w) (append_assoc history drops (site ∷ []))
           (dropped.after start (history ++ drops) (was.after start history first)));

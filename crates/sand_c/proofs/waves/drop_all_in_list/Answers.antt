@@ -1,9 +1,9 @@
 -- The waves so far are those of the drops so far, and the next drop writes its own behind them (`waves_more`, `take_on`); what is
 -- behind those stays (`drop_on`).
-use Rattle.sand_c.proofs.Common.{ℕ, List, ◌++◌, take, get_or, ◌≡◌, ◌∙◌, length, sym, ap, subst, arith, take_more, take_more_set, length-append, length-set, drop-drop, most_to_edge, DrivenView, IsAfter, AreWaves, append_assoc, [], ◌∷◌}
+use Rattle.sand_c.proofs.Common.{ℕ, List, ◌++◌, take, get_or, ◌≡◌, ◌∙◌, length, sym, ap, subst, arith, take_more, take_more_set, length-append, length-set, drop-drop, most_to_edge, DrivenView, HasAvalanche, IsAfter, AreWaves, append_assoc, [], ◌∷◌}
 use Rattle.std.proofs.Common.{drop}
 use Rattle.sand_c.specs.declared.waves.SandpileWave.{SandpileWave}
-use Rattle.sand_settle.proofs.Drops.{avalanches_push}
+use Rattle.sand_settle.proofs.Drops.{drops_push}
 use Rattle.sand_c.proofs.WaveLists.{waves_more, take_on, drop_on}
 use Rattle.sand_c.proofs.waves.drop_all_in_list.Goals as goal
 
@@ -26,11 +26,11 @@ loop-next-preserved c =
         take_more_set c.loop-next.avalanches i c.drop_in_list-more.result.0
             (omega (arith, c.loop-next-test.true, was.avalanche_each)),
       )
-          (avalanches_push start v w drops (take i c.loop-next.avalanches) site c.drop_in_list-more.result.0 was.avalanches
+          (drops_push HasAvalanche start v w drops (take i c.loop-next.avalanches) site c.drop_in_list-more.result.0 was.avalanches
           dropped.drops);
       waves = rw (more, take_on front rest count n front_len) (waves_more start v w drops front site (take n rest)
           (subst (λ l. AreWaves start drops l v) (sym c.split_at_mut-rest.ensures.front) was.waves)
-          dropped.drops.drops c.drop_in_list-more.ensures.waves);
+          c.drop_in_list-more.ensures.waves);
       after = λ first history led. rw more (subst (λ (l : List ℕ). IsAfter first l w) (append_assoc history drops (site ∷ []))
           (dropped.after first (history ++ drops) (was.after first history led)));
       grid = dropped.drops.drops.settled.grid ∙ was.grid;

@@ -13,10 +13,11 @@ has c = subst (λ (r : Result (ℕ × Avalanche × ℕ) OneFault). IfOk r (λ q.
     HasDroppedInWaves c.args.pile.now c.args.site q.2 q.1 c.args.sizes.now c.drop_with_waves.new.sizes
     c.drop_with_waves.new.self)) c.unwrap-number.ensures c.drop_with_waves.ensures.waves
 
-number_is : (c : After-unwrap-number) → c.unwrap-number.result.0 ≡ c.args.pile.now.number
-number_is c = (subst (λ (r : Result (ℕ × Avalanche × ℕ) OneFault). IfOk r (λ q.
+dropped : (c : After-unwrap-number) → HasDropped c.args.pile.now c.args.site c.unwrap-number.result.0 c.unwrap-number.result.1
+    c.drop_with_waves.new.self
+dropped c = subst (λ (r : Result (ℕ × Avalanche × ℕ) OneFault). IfOk r (λ q.
     HasDropped c.args.pile.now c.args.site q.0 q.1 c.drop_with_waves.new.self)) c.unwrap-number.ensures
-    c.drop_with_waves.ensures.dropped).number
+    c.drop_with_waves.ensures.dropped
 
 few : (c : After-unwrap-number) → c.unwrap-number.result.2 ≤ most_to_edge (grid_of_driven c.args.pile.now)
 few c = few_waves (has c) c.requires.site
@@ -39,7 +40,7 @@ write_waves-requires c =
 pub returns-clause-waves : goal.returns-clause-waves
 returns-clause-waves c =
     let at = (goal.at.returns-clause-waves c).After-unwrap-number in
-    (is_written (has at) c.requires.site c.requires.sizes (number_is at) c.write_waves.ensures).waves
+    (is_written (has at) c.requires.site c.requires.sizes (dropped at) c.write_waves.ensures).waves
 
 pub returns-clause-few : goal.returns-clause-few
 returns-clause-few c = few (goal.at.returns-clause-few c).After-unwrap-number
@@ -47,4 +48,4 @@ returns-clause-few c = few (goal.at.returns-clause-few c).After-unwrap-number
 pub returns-clause-rest : goal.returns-clause-rest
 returns-clause-rest c =
     let at = (goal.at.returns-clause-rest c).After-unwrap-number in
-    (is_written (has at) c.requires.site c.requires.sizes (number_is at) c.write_waves.ensures).rest
+    (is_written (has at) c.requires.site c.requires.sizes (dropped at) c.write_waves.ensures).rest
