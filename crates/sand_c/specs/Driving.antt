@@ -108,8 +108,8 @@ pub record Holds {A : Type 0} (held : Option A) (Is : A → Type 0) : Type 0 whe
 pub record IsReading (heights odometer : List ℕ) (topplings lost drops : ℕ) (v : DrivenView) : Type 0 where
   pub heights_each : (length heights ≡ 0) ⊎ (length heights ≡ sites (grid_of_driven v))
   pub odometer_each : (length odometer ≡ 0) ⊎ (length odometer ≡ sites (grid_of_driven v))
-  pub heights_are : (i : ℕ) → i < length heights → slice_index heights i ≡ height_of v.settled.pile i
-  pub odometer_is : (i : ℕ) → i < length odometer → slice_index odometer i ≡ odometer_of v.settled i
+  pub heights_are : (length heights ≡ 0) ⊎ (heights ≡ v.settled.pile.heights)
+  pub odometer_is : (length odometer ≡ 0) ⊎ (odometer ≡ v.settled.odometer)
   pub topplings_are : topplings ≡ v.settled.topplings
   pub lost_is : lost ≡ v.settled.lost
   pub drops_are : drops ≡ v.number

@@ -1,17 +1,15 @@
 //! A driven pile that knows how many more grains it takes.
 
-ghost use Rattle.std.specs.Prelude.{◌≡◌, ◌≢◌, ◌+◌, ◌-◌, ◌<◌, ◌≤◌, [], ℕ, All, length, slice_index, IfOk, IfErr, OnOk, OnErr, Ok, Err, IsOk};
+ghost use Rattle.std.specs.Prelude.{◌≡◌, ◌+◌, ◌<◌, ◌≤◌, [], All, length, IfOk, IfErr, OnOk, OnErr, Ok, Err, IsOk};
 ghost use Rattle.sand_model.specs.Grid.{sites};
-ghost use Rattle.sand_model.specs.Piles.{height_of, most_grains_on};
-ghost use Rattle.sand_settle.specs.Settling.{odometer_of};
+ghost use Rattle.sand_model.specs.Piles.{most_grains_on};
 ghost use Rattle.sand_settle.specs.Drops.{grid_of_driven, IsAfter};
 ghost use Rattle.sand_c.specs.Driving.{HaveDriven, HasDriven, IsReading, IsSiteOf, drops_on_drive, drop_on_drive, entries_of, with_site};
-ghost use Rattle.sand_c.specs.KeptOdometers.{IsOdometer};
 ghost use Rattle.sand_c.specs.Waves.{HaveDrivenInWaves, waves_on_drive};
 
 use crate::dropping::{are_sites, drop_all, drop_grain};
 use crate::faults::Fault;
-use crate::kept_odometer::{keep_odometer, read_odometer, take_topplings};
+use crate::kept_odometer::{keep_odometer, take_topplings};
 use crate::waves::drop_all_in_list;
 use crate::{SandpileAvalanche, SandpileWave};
 use sand_model::Pile;
@@ -139,26 +137,15 @@ impl Drive {
         Ok(count)
     }
 
-    // Writes the heights.
-    // For the proof: `DrivenPile::read_heights`, with what it writes site by site.
-    fn read_heights(&self, heights: &mut [u64])
-        requires { length heights.old ≡ sites (grid_of_driven self.now) }
-        ensures len { length heights.new ≡ length heights.old }
-        ensures heights { (i : ℕ) → i < sites (grid_of_driven self.now)
-            → slice_index heights.new i ≡ height_of self.now.settled.pile i }
-    {
-        self.pile.read_heights(heights);
-    }
-
     // Writes how often each site has toppled.
     fn read_odometer(&self, odometer: &mut [u64])
         requires { length odometer.old ≡ sites (grid_of_driven self.now) }
-        ensures { IsOdometer odometer.new self.now }
+        ensures { odometer.new ≡ self.now.settled.odometer }
     {
         if self.is_current {
             odometer.copy_from_slice(self.kept.as_slice());
         } else {
-            read_odometer(&self.pile, odometer);
+            self.pile.read_odometer(odometer);
         }
     }
 
@@ -189,7 +176,7 @@ impl Drive {
             return Err(Fault::Length);
         }
         if wants_heights {
-            self.read_heights(heights);
+            self.pile.read_heights(heights);
         }
         if wants_odometer {
             self.read_odometer(odometer);

@@ -8,27 +8,17 @@ ghost use Rattle.std.specs.Prelude.{◌≡◌, ℕ, ◌-◌, ◌^◌, ◌<◌, �
 ghost use Rattle.sand_model.specs.Grid.{sites, distance};
 ghost use Rattle.sand_settle.specs.Settling.{odometer_of};
 ghost use Rattle.sand_settle.specs.Drops.{grid_of_driven};
-ghost use Rattle.sand_c.specs.KeptOdometers.{IsOdometer};
 
 use sand_settle::{DrivenPile, write_near};
-
-/// Writes how often each site has toppled.
-// For the proof: `DrivenPile::read_odometer`, with what it writes as one fact.
-pub(crate) fn read_odometer(pile: &DrivenPile, odometer: &mut [u64])
-    requires { length odometer.old ≡ sites (grid_of_driven pile.now) }
-    ensures { IsOdometer odometer.new pile.now }
-{
-    pile.read_odometer(odometer);
-}
 
 /// Brings a kept odometer up to date, unless it is current.
 pub(crate) fn keep_odometer(pile: &DrivenPile, kept: &mut [u64], is_current: bool)
     requires len { length kept.old ≡ sites (grid_of_driven pile.now) }
-    requires current { IsTrue is_current → IsOdometer kept.old pile.now }
-    ensures { IsOdometer kept.new pile.now }
+    requires current { IsTrue is_current → kept.old ≡ pile.now.settled.odometer }
+    ensures { kept.new ≡ pile.now.settled.odometer }
 {
     if !is_current {
-        read_odometer(pile, kept);
+        pile.read_odometer(kept);
     }
 }
 
@@ -49,7 +39,7 @@ pub(crate) fn take_topplings(
         → slice_index kept.old i ≤ odometer_of pile.now.settled i }
     requires within { (i : ℕ) → i < sites (grid_of_driven pile.now)
         → slice_index kept.old i < odometer_of pile.now.settled i → distance (grid_of_driven pile.now) site i ≤ reach }
-    ensures kept { IsOdometer kept.new pile.now }
+    ensures kept { kept.new ≡ pile.now.settled.odometer }
     ensures topplings_each { length topplings.new ≡ length topplings.old }
     ensures topplings { (i : ℕ) → i < sites (grid_of_driven pile.now)
         → slice_index topplings.new i ≡ odometer_of pile.now.settled i - slice_index kept.old i }
