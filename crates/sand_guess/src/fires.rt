@@ -125,7 +125,7 @@ impl Tiles {
                     let was_due = is_any(place.tile.due);
                     place.tile.give(kindling, u16x8::splat(0));
                     let is_new = !was_due & is_any(place.tile.due);
-                    self.wait_if(k, is_new);
+                    self.waiting.add_if(k, is_new);
                 }
                 self.hand_over(k, kindling);
             }

@@ -37,6 +37,7 @@ mod solver;
 mod sweeps;
 mod tile;
 mod tiles;
+mod waiting;
 
 pub use claim::{Claim, guessed, guessed_identity, toppled};
 pub use forecast::{is_flat, is_high};

@@ -1,6 +1,6 @@
 //! Heights on tiles: sand topples, and burns, where there is something to do.
 //!
-//! A tile waits in a queue while some of its sites may topple. A visit topples them, and then the grains that leave the
+//! A tile waits while some of its sites may topple (`waiting`). A visit topples them, and then the grains that leave the
 //! tile are added to those around it.
 //!
 //! Sites burn in the same way: `fires` takes topplings back.
@@ -9,6 +9,7 @@ ghost use Rattle.std.specs.Prelude.{◌≤◌, ◌<◌};
 
 use crate::places::{Place, pitch_of, places_of};
 use crate::tile::{LEVEL, ROUNDS, is_any};
+use crate::waiting::Waiting;
 use sand_model::Shape;
 use std::alloc::{AllocError, Global};
 use std::simd::prelude::*;
@@ -21,11 +22,6 @@ pub(crate) const PLANES: usize = 16;
 
 // The planes that a count is added to without a test.
 const FEW_PLANES: usize = 6;
-
-// The places of the ring for up to 1023 tiles. For more tiles it is doubled, at most so many times.
-const ROOM: usize = 1024;
-
-const DOUBLINGS: usize = 20;
 
 /// Whether the tiles have room for a height.
 #[inline(always)]
@@ -42,10 +38,7 @@ pub(crate) struct Tiles {
     /// By tile, how often each place toppled: a plane for each bit of the count. While topplings are taken back, how often
     /// that was done.
     pub(crate) counts: Vec<[u16x8; PLANES]>,
-    /// The tiles that wait for a visit, each of them once, first in, first out: a ring, of a power of two.
-    waiting: Vec<usize>,
-    head: usize,
-    tail: usize,
+    pub(crate) waiting: Waiting,
     /// The tiles that take part in a fire, `listed` of them.
     pub(crate) fire: Vec<usize>,
     pub(crate) listed: usize,
@@ -89,31 +82,17 @@ pub(crate) fn add_planes(
     }
 }
 
-// The places of a ring for so many tiles.
-fn room_for(tiles: usize) -> usize {
-    let mut room = ROOM;
-    for _ in 0..DOUBLINGS {
-        if room <= tiles {
-            room = room.wrapping_mul(2);
-        }
-    }
-    room
-}
-
 impl Tiles {
     pub(crate) fn new(alloc: Global, shape: Shape) -> Result<Tiles, AllocError> {
         let places = places_of(alloc, shape)?;
         let counts = vec![in alloc; [u16x8::splat(0); PLANES]; places.len()]?;
-        let room = room_for(places.len());
-        let fire = vec![in alloc; 0usize; places.len()]?;
+        let pitch = pitch_of(shape);
         Ok(Tiles {
-            pitch: pitch_of(shape),
+            pitch,
+            waiting: Waiting::new(alloc, places.len(), pitch)?,
+            fire: vec![in alloc; 0usize; places.len()]?,
             places,
             counts,
-            waiting: vec![in alloc; 0usize; room]?,
-            head: 0,
-            tail: 0,
-            fire,
             listed: 0,
             is_burning: false,
             fires: 0,
@@ -124,36 +103,14 @@ impl Tiles {
         })
     }
 
-    // Has a tile wait, if a test is true.
-    #[inline(always)]
-    pub(crate) fn wait_if(&mut self, k: usize, test: bool) {
-        let last = self.waiting.len().wrapping_sub(1);
-        if let Some(slot) = self.waiting.get_mut(self.tail & last) {
-            *slot = k;
-        }
-        self.tail = self.tail.wrapping_add(usize::from(test));
-    }
-
-    // The tile that has waited longest, which is then visited.
-    #[inline(always)]
-    fn next(&mut self) -> Option<usize> {
-        if self.head == self.tail {
-            return None;
-        }
-        let last = self.waiting.len().wrapping_sub(1);
-        let k = self.waiting.get(self.head & last).copied();
-        self.head = self.head.wrapping_add(1);
-        k
-    }
-
     /// Loads heights. The tiles have room for all of them.
     pub(crate) fn put(&mut self, heights: &[i64]) {
-        self.tail = self.head;
+        self.waiting.clear();
         for k in 0..self.places.len() {
             if let Some(place) = self.places.get_mut(k) {
                 place.put(heights);
                 let is_due = is_any(place.tile.due);
-                self.wait_if(k, is_due);
+                self.waiting.add_if(k, is_due);
             }
         }
     }
@@ -165,7 +122,7 @@ impl Tiles {
             && place.is_inside
         {
             let is_new = place.tile.gain(set);
-            self.wait_if(k, is_new);
+            self.waiting.add_if(k, is_new);
         }
     }
 
@@ -210,7 +167,7 @@ impl Tiles {
             place.visit_in_turns(&mut self.turns, &mut self.turn)
         };
         let is_due = is_any(place.tile.due);
-        self.wait_if(k, is_due);
+        self.waiting.add_if(k, is_due);
         if self.is_burning {
             self.note_burnt(k, toppled);
         } else if k < self.counts.len() {
@@ -222,12 +179,12 @@ impl Tiles {
     // Topples until no tile waits, and returns whether this number of visits for each tile was enough.
     pub(crate) fn topple_waiting(&mut self, visits: usize) -> bool {
         for _ in 0..visits.wrapping_mul(self.places.len()) {
-            let Some(k) = self.next() else {
+            let Some(k) = self.waiting.next() else {
                 return true;
             };
             self.visit(k);
         }
-        self.head == self.tail
+        self.waiting.is_empty()
     }
 
     /// Topples until no site may topple, and returns whether this number of visits for each tile was enough.
