@@ -1,4 +1,4 @@
-"""The handles in C: the example on threads under valgrind and ThreadSanitizer, and the tests of handles.c."""
+"""The handles in C: the example on threads under valgrind and ThreadSanitizer, the tests of handles.c, and that both are one text."""
 
 import unittest
 from pathlib import Path
@@ -8,6 +8,46 @@ from tools import LIBRARY, TOP, needs, new_folder, ran
 TESTS = Path(__file__).resolve().parent / "handles.c"
 EXAMPLE = TOP / "examples" / "shared.c"
 LAST = "lost: as one thread\n"
+SAND_C = TOP / "crates" / "sand_c"
+# The source of each handle, its proofs, and those of the call that frees it.
+OF_DRIVE = ("src/drive_handle.rt", "proofs/drive_handle", "proofs/driving/sandpile_drive_free")
+OF_PASS = ("src/pass_handle.rt", "proofs/pass_handle", "proofs/passing/sandpile_pass_free")
+# What one handle is called where the other is called otherwise.
+RENAMED = (
+    ("SandpileDrive", "SandpilePass"),
+    ("drive_handle", "pass_handle"),
+    ("sandpile_drive_free", "sandpile_pass_free"),
+    ("driving", "passing"),
+    ("A driven pile that", "A pass of a shared pile that"),
+    ("A driven pile, or", "A pass of a shared pile, or"),
+    ("at the pile in", "at the pass in"),
+    ("sand_settle.specs.Drops", "sand_c.specs.OwnedPasses"),
+    ("DrivenView", "OwnedPassView"),
+    ("drive::Drive", "owned_pass::OwnedPass"),
+    (".drive.Drive.", ".owned_pass.OwnedPass."),
+    ("mut Drive;", "mut OwnedPass;"),
+    ("<Drive", "<OwnedPass"),
+)
+
+
+def of_a_pass(text):
+    """What is told of the handle of a driven pile, told of that of a pass."""
+    for drive, pass_ in RENAMED:
+        text = text.replace(drive, pass_)
+    return text
+
+
+def told_in(paths):
+    """The texts of these files, and of all in these folders, by their paths."""
+    files = [file for path in paths for file in ([SAND_C / path] if path.endswith(".rt") else (SAND_C / path).rglob("*.antt"))]
+    return {str(file.relative_to(SAND_C)): file.read_text() for file in files}
+
+
+class OneText(unittest.TestCase):
+    def test_a_pass_is_held_as_a_driven_pile_is(self):
+        drive = {of_a_pass(path): of_a_pass(text) for path, text in told_in(OF_DRIVE).items()}
+        self.assertGreater(len(drive), len(OF_DRIVE))
+        self.assertEqual(drive, told_in(OF_PASS))
 
 
 class Handles(unittest.TestCase):
