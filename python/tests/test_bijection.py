@@ -7,10 +7,9 @@ import unittest
 
 import numpy as np
 import sandpile
-from test_random import toppling_matrix
-from tools import same
+from tools import same, toppling_matrix
 
-GRIDS = ((2, 2, False), (1, 3, False), (1, 4, True))
+GRIDS = ((2, 2, False), (1, 5, False), (2, 3, True), (1, 4, True))
 SHAPES = ((1, 1, False), (1, 256, False), (7, 5, False), (5, 7, True), (256, 1, False), (256, 256, True), (64, 64, False))
 
 

@@ -11,8 +11,7 @@ import numpy as np
 import sandpile
 from sandpile import _dropping, driving
 from test_live import equal
-from test_random import toppling_matrix
-from tools import TOP, in_blocks, same
+from tools import TOP, in_blocks, same, toppling_matrix
 
 FULL = np.full((32, 32), 3)
 # The cell of a notebook that gathers blocks.

@@ -6,24 +6,10 @@ import unittest
 
 import numpy as np
 import sandpile
+from test_large import plain_times
 from tools import same
 
 FULL = np.full((3, 3), 3)
-
-
-def plain_times(pile, cylinder):
-    """In each step, the sites burn that have at least as many grains as unburnt neighbours."""
-    times, step = np.full(pile.shape, -1), 0
-    while True:
-        step += 1
-        unburnt = np.pad((times < 0).astype(int), 1)
-        if cylinder:
-            unburnt[:, 0], unburnt[:, -1] = unburnt[:, -2], unburnt[:, 1]
-        around = unburnt[:-2, 1:-1] + unburnt[2:, 1:-1] + unburnt[1:-1, :-2] + unburnt[1:-1, 2:]
-        burns = (times < 0) & (pile >= around)
-        if not burns.any():
-            return times
-        times[burns] = step
 
 
 def random_piles(count):

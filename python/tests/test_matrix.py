@@ -7,8 +7,7 @@ from unittest import mock
 
 import numpy as np
 import sandpile
-import test_classes
-from tools import TOP, needs_module
+from tools import TOP, needs_module, toppling_matrix
 
 GRIDS = [(1, 1, False), (1, 5, False), (5, 1, False), (3, 4, False), (1, 3, True), (4, 3, True), (2, 5, True)]
 
@@ -19,7 +18,7 @@ class Matrix(unittest.TestCase):
         for height, width, cylinder in GRIDS:
             matrix = sandpile.toppling_matrix((height, width), cylinder)
             self.assertEqual((matrix.format, matrix.dtype, matrix.shape), ("csr", np.int64, (height * width,) * 2))
-            self.assertEqual(matrix.toarray().tolist(), test_classes.toppling_matrix((height, width), cylinder))
+            self.assertEqual(matrix.toarray().tolist(), toppling_matrix(height, width, cylinder).tolist())
 
     def test_its_determinant_is_the_number_of_recurrent_piles(self):
         # Those of 2 by 2 and 3 by 3 are in the OEIS: A007341.

@@ -7,7 +7,7 @@ from unittest import mock
 import numpy as np
 import sandpile
 from sandpile import stationary
-from tools import same, words_of
+from tools import same, toppling_matrix, words_of
 
 PI = np.pi
 # The probability of each height far from the edge (Priezzhev 1994; Kenyon and Wilson 2015).
@@ -17,14 +17,6 @@ HEIGHTS = [
     3 / 8 + 1 / PI - 12 / PI**3,
     3 / 8 - 1 / (2 * PI) + 1 / PI**2 + 4 / PI**3,
 ]
-
-
-def toppling_matrix(height, width, cylinder=False):
-    def chain(n, is_ring):
-        ring = np.roll(np.eye(n), 1, axis=0) if is_ring else np.eye(n, k=1)
-        return 2 * np.eye(n) - ring - ring.T
-
-    return np.kron(chain(height, False), np.eye(width)) + np.kron(np.eye(height), chain(width, cylinder))
 
 
 def mean_size(side):

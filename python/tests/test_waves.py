@@ -6,7 +6,7 @@ from unittest import mock
 
 import numpy as np
 import sandpile
-from test_bijection import ends
+from test_large import Plain
 from test_live import equal
 from tools import in_blocks, same
 
@@ -14,24 +14,12 @@ GRIDS = ((1, 1, False), (1, 5, False), (2, 2, False), (7, 9, False), (16, 16, Fa
 
 
 def plain_waves(pile, site, cylinder):
-    """In a wave, the site topples once, and then others that have four grains, each once, until there are none."""
-    heights, to, waves = pile.copy(), ends(*pile.shape, cylinder), []
-    heights[site] += 1
-
-    def topple(at, wave):
-        heights[at] -= 4
-        wave[at] = True
-        for way in range(4):
-            if to[(*at, way)]:
-                heights[to[(*at, way)]] += 1
-
-    while heights[site] > 3:
-        wave = np.zeros(pile.shape, bool)
-        topple(site, wave)
-        while ready := [tuple(at) for at in np.argwhere((heights > 3) & ~wave)]:
-            topple(ready[-1], wave)
-        waves.append(wave)
-    return heights, waves
+    """The heights after a drop, and the sites of its waves."""
+    plain, waves = Plain(pile, cylinder), []
+    plain.heights[site] += 1
+    while plain.heights[site] > 3:
+        waves.append(np.isin(np.arange(pile.size), [*plain.wave(site)]).reshape(pile.shape))
+    return np.reshape(plain.heights, pile.shape), waves
 
 
 def most_waves(height, width, cylinder):
@@ -68,7 +56,7 @@ class Waves(unittest.TestCase):
                 for _ in range(150):
                     before = run.pile
                     row, sizes, waves = run.waves()
-                    after, plain = plain_waves(before, np.unravel_index(row["site"], grid[:2]), grid[2])
+                    after, plain = plain_waves(before, int(row["site"]), grid[2])
                     self.assertTrue(same(waves, np.array(plain, bool).reshape(-1, *grid[:2])))
                     self.assertEqual(sizes.tolist(), [int(wave.sum()) for wave in plain])
                     self.assertTrue(same(run.pile, after))

@@ -127,6 +127,17 @@ def resident():
         return int(file.read().split()[1]) * os.sysconf("SC_PAGE_SIZE")
 
 
+def toppling_matrix(height, width, cylinder=False):
+    """What each site loses as each other one topples, by the definition."""
+    matrix = 4 * np.eye(height * width, dtype=int)
+    for row, column in np.ndindex(height, width):
+        for i, j in ((row - 1, column), (row, column - 1), (row, column + 1), (row + 1, column)):
+            j = j % width if cylinder else j
+            if 0 <= i < height and 0 <= j < width:
+                matrix[row * width + column, i * width + j] -= 1
+    return matrix
+
+
 def same(one, other):
     """Whether two arrays have the same shape, type and values."""
     return one.shape == other.shape and one.dtype == other.dtype and np.array_equal(one, other)
