@@ -73,7 +73,7 @@ fn what_a_fault_says(rt: HostRuntime) -> Result<(), Fail> {
 #[test]
 fn numbers_and_statuses_of_misuse_and_of_help(rt: HostRuntime) -> Result<(), Fail> {
     for (line, expected) in [("", 2), ("settle --pile --pgm", 2), ("--help", 0)] {
-        let mut reader = Failing(b"", true);
+        let mut reader = Failing(b"");
         let mut writer = Sluggish::new(rt.alloc(), 0);
         let fault = fault_of(&rt, rt.alloc(), line, &mut reader, &mut writer)?;
         let told = fault.map(|fault| (fault.number(), status(&fault)));
@@ -83,30 +83,22 @@ fn numbers_and_statuses_of_misuse_and_of_help(rt: HostRuntime) -> Result<(), Fai
 }
 
 #[test]
-fn numbers_of_the_faults_of_texts(rt: HostRuntime) {
-    for (fault, number) in [
-        (TextFault::Side, 1),
-        (TextFault::Length, 2),
-        (TextFault::TooManyGrains, 3),
-        (TextFault::Text(7), 18),
-        (TextFault::TooLarge(7), 19),
-        (TextFault::Narrow, 24),
-        (TextFault::NoSite(7), 25),
+fn numbers_of_the_faults_of_texts_and_streams(rt: HostRuntime) {
+    for (number, expected) in [
+        (TextFault::Side.number(), 1),
+        (TextFault::Length.number(), 2),
+        (TextFault::TooManyGrains.number(), 3),
+        (TextFault::Text(7).number(), 18),
+        (TextFault::TooLarge(7).number(), 19),
+        (TextFault::Narrow.number(), 24),
+        (TextFault::NoSite(7).number(), 25),
+        (ReadFault::Text(TextFault::NoSite(7)).number(), 25),
+        (ReadFault::Memory.number(), 4),
+        (StreamFault::Memory.number(), 4),
+        (StreamFault::Read.number(), 20),
+        (StreamFault::Write(7).number(), 21),
+        (StreamFault::TooLong.number(), 22),
     ] {
-        assert!(rt; fault.number() == number);
-        assert!(rt; ReadFault::Text(fault).number() == number);
-    }
-    assert!(rt; ReadFault::Memory.number() == 4);
-}
-
-#[test]
-fn numbers_of_the_faults_of_streams(rt: HostRuntime) {
-    for (fault, number) in [
-        (StreamFault::Memory, 4),
-        (StreamFault::Read, 20),
-        (StreamFault::Write(7), 21),
-        (StreamFault::TooLong, 22),
-    ] {
-        assert!(rt; fault.number() == number);
+        assert_eq!(rt; number, expected);
     }
 }

@@ -1,6 +1,6 @@
 //! How often a command calls its gate.
 
-use crate::stopping::{Failing, Sluggish};
+use crate::stopping::Sluggish;
 use sand_desk::run_gated_command;
 use sand_testing::counting::Count;
 use sand_testing::words::command;
@@ -23,7 +23,7 @@ pub(crate) fn is_run<T: Threads + Sync, W: Write>(
     writer: &mut W,
 ) -> Result<bool, Fail> {
     let words = command(alloc, line)?;
-    let mut reader = Failing(b"1 1\n0\n", false);
+    let mut reader = b"1 1\n0\n".as_slice();
     let ended = run_gated_command(rt, alloc, gate, words.as_slice(), &mut reader, writer);
     let is_done = ended.is_ok() && gate.is_in_order();
     drop((ended, words));

@@ -1,7 +1,7 @@
-//! Pictures of stable piles, and texts of piles that no command writes, because they are not settled.
+//! Pictures of stable piles.
 
-use sand_model::{Edge, Pile};
-use sand_testing::piles::{open_pile, pile_on};
+use sand_model::Pile;
+use sand_testing::piles::open_pile;
 use std::alloc::Global;
 use std::test::Fail;
 
@@ -39,24 +39,6 @@ fn pictures_of_narrow_and_wide_piles(rt: HostRuntime) -> Result<(), Fail> {
     ] {
         let pile = open_pile(rt.alloc(), width, height, heights)?;
         assert!(rt; is_drawn(rt.alloc(), &pile, &parts), "{width} by {height}");
-    }
-    Ok(())
-}
-
-#[test]
-fn texts_of_high_piles(rt: HostRuntime) -> Result<(), Fail> {
-    for (width, edge, heights, expected) in [
-        (
-            2,
-            Edge::Open,
-            [0, 10, 1_099_511_627_762, 3].as_slice(),
-            "2 2\n0 10\n1099511627762 3\n",
-        ),
-        (3, Edge::Cylinder, &[4, 0, 7], "3 1 c\n4 0 7\n"),
-    ] {
-        let pile = pile_on(rt.alloc(), width, heights.len() / width, edge, heights)?;
-        let text = sand_text::pile_text(rt.alloc(), &pile)?;
-        assert_eq!(rt; text.as_slice(), expected.as_bytes());
     }
     Ok(())
 }

@@ -58,23 +58,3 @@ fn a_pile_with_white_space_and_leading_zeros(rt: HostRuntime) -> Result<(), Fail
     assert!(rt; heights.as_slice() == [7].as_slice());
     Ok(())
 }
-
-#[test]
-fn a_pile_and_drops(rt: HostRuntime) -> Result<(), Fail> {
-    let read = read_drops(rt.alloc(), b"2 1\n0 7\n1 1 0");
-    let (pile, drops) = read.ok().ok_or("no drops")?;
-    let (_, heights) = pile.into_parts();
-    assert!(rt; heights.as_slice() == [0, 7].as_slice());
-    assert!(rt; drops.as_slice() == [1, 1, 0].as_slice());
-    Ok(())
-}
-
-#[test]
-fn two_piles(rt: HostRuntime) -> Result<(), Fail> {
-    let read = read_two(rt.alloc(), b"2 1\n0 7\n1 1\n5");
-    let (first, second) = read.ok().ok_or("no piles")?;
-    let ((_, first), (_, second)) = (first.into_parts(), second.into_parts());
-    assert!(rt; first.as_slice() == [0, 7].as_slice());
-    assert!(rt; second.as_slice() == [5].as_slice());
-    Ok(())
-}

@@ -62,20 +62,16 @@ impl Write for Sluggish {
     }
 }
 
-/// Gives these bytes, one per call; then fails, if told to, or ends.
+/// Gives these bytes, one per call; then fails.
 #[derive(Drop)]
-pub struct Failing<'a>(pub &'a [u8], pub bool);
+pub struct Failing<'a>(pub &'a [u8]);
 
 impl Read for Failing<'_> {
     ghost remaining = { λ r. Some r.0.now };
 
     fn read(&mut self, room: &mut [u8]) -> io::Result<usize> {
         let (Some(slot), [first, rest @ ..]) = (room.first_mut(), self.0) else {
-            return if self.1 {
-                Err(io::Error::from(ErrorKind::Other))
-            } else {
-                Ok(0)
-            };
+            return Err(io::Error::from(ErrorKind::Other));
         };
         *slot = *first;
         self.0 = rest;

@@ -37,7 +37,7 @@ fn stops<T: Threads + Sync + Abort>(
     taken: &[u8],
     failure: Option<ErrorKind>,
 ) -> Result<(), Fail> {
-    let mut reader = Failing(bytes, false);
+    let mut reader = bytes;
     let mut writer = Sluggish::new(alloc, taken.len());
     writer.failure = failure;
     let fault = fault_of(rt, alloc, line, &mut reader, &mut writer)?;
@@ -62,29 +62,6 @@ fn a_writer_that_stops(rt: HostRuntime) -> Result<(), Fail> {
     Ok(())
 }
 
-// The text of these random drops has more than two blocks of 65,536 bytes.
-const LONG: &str = "drops --count 10000 --seed 5";
-
-const FULL: &[u8] = b"2 2\n3 3\n3 3\n";
-
-#[test]
-fn a_writer_that_stops_in_a_later_block(rt: HostRuntime) -> Result<(), Fail> {
-    let mut whole = Sluggish::new(rt.alloc(), 1_000_000);
-    let mut reader = Failing(FULL, false);
-    let fault = fault_of(&rt, rt.alloc(), LONG, &mut reader, &mut whole)?;
-    assert!(rt; fault.is_none());
-    let text = whole.taken.as_slice();
-    assert!(rt; text.len() > 131_072 + 5_376);
-    let last = text.len().saturating_sub(1);
-    for room in [65_535, 65_536, 70_912, 100_000, 131_072, last] {
-        let taken = &text[..room.min(last)];
-        for failure in FAILURES {
-            stops(&rt, rt.alloc(), LONG, FULL, taken, failure)?;
-        }
-    }
-    Ok(())
-}
-
 // The number of the fault of `settle`, if nothing was written.
 fn unwritten<T: Threads + Sync, R: Read>(
     rt: &T,
@@ -99,7 +76,7 @@ fn unwritten<T: Threads + Sync, R: Read>(
 
 #[test]
 fn a_writer_that_cannot_flush(rt: HostRuntime) -> Result<(), Fail> {
-    let mut reader = Failing(PILE, false);
+    let mut reader = PILE;
     let mut writer = Sluggish::new(rt.alloc(), 100);
     writer.flushes = false;
     let fault = fault_of(&rt, rt.alloc(), SETTLE, &mut reader, &mut writer)?;
@@ -108,12 +85,33 @@ fn a_writer_that_cannot_flush(rt: HostRuntime) -> Result<(), Fail> {
     Ok(())
 }
 
+// It is written up to where the writer stops, or fails to flush. Nothing is read.
+#[test]
+fn help_that_is_not_written_to_its_end(rt: HostRuntime) -> Result<(), Fail> {
+    let start = b"Settles a pile: topples sites until each has at most 3 grains\n";
+    for room in [0, 1, start.len(), 10_000] {
+        let mut writer = Sluggish::new(rt.alloc(), room);
+        writer.flushes = false;
+        let mut reader = Failing(b"");
+        let asked = fault_of(&rt, rt.alloc(), "settle --help", &mut reader, &mut writer)?;
+        let shown = show_help(rt.alloc(), asked.ok_or("no help")?, &mut writer);
+        let taken = writer.taken.as_slice();
+        assert_eq!(rt; sent(shown.err()), Some(taken.len()), "at {room}");
+        let is_start = taken
+            .iter()
+            .zip(start.iter())
+            .all(|(byte, due)| byte == due);
+        assert!(rt; is_start && taken.len() >= room.min(100), "at {room}");
+    }
+    Ok(())
+}
+
 // It gives one byte per call, or as many as requested.
 #[test]
 fn a_reader_that_fails_after_some_bytes(rt: HostRuntime) -> Result<(), Fail> {
     for count in 0..PILE.len() + 1 {
         let bytes = &PILE[..count];
-        let one_by_one = unwritten(&rt, rt.alloc(), &mut Failing(bytes, true))?;
+        let one_by_one = unwritten(&rt, rt.alloc(), &mut Failing(bytes))?;
         let at_once = unwritten(&rt, rt.alloc(), &mut Cut(bytes))?;
         assert_eq!(rt; [one_by_one, at_once], [READ; 2], "after {count}");
     }
@@ -130,37 +128,5 @@ fn spaces_without_end(rt: HostRuntime) -> Result<(), Fail> {
     };
     let number = unwritten(&rt, rt.alloc(), &mut reader)?;
     assert_eq!(rt; (number, reader.calls), (TOO_LONG, 1_048_577));
-    Ok(())
-}
-
-// The number of bytes of the help of `settle` written before the writer failed, if it did.
-fn helps<T: Threads + Sync>(
-    rt: &T,
-    alloc: Global,
-    writer: &mut Sluggish,
-) -> Result<Option<usize>, Fail> {
-    let mut reader = Failing(b"", true);
-    let asked = fault_of(rt, alloc, "settle --help", &mut reader, writer)?;
-    let asked = asked.ok_or("no help")?;
-    Ok(sent(show_help(alloc, asked, writer).err()))
-}
-
-#[test]
-fn a_writer_that_stops_in_help(rt: HostRuntime) -> Result<(), Fail> {
-    let start = b"Settles a pile: topples sites until each has at most 3 grains\n";
-    for room in 0..start.len() {
-        let mut writer = Sluggish::new(rt.alloc(), room);
-        assert_eq!(rt; helps(&rt, rt.alloc(), &mut writer)?, Some(room));
-        assert_eq!(rt; writer.taken.as_slice(), &start[..room]);
-    }
-    Ok(())
-}
-
-#[test]
-fn help_that_cannot_be_flushed(rt: HostRuntime) -> Result<(), Fail> {
-    let mut writer = Sluggish::new(rt.alloc(), 10_000);
-    writer.flushes = false;
-    let after = helps(&rt, rt.alloc(), &mut writer)?;
-    assert!(rt; after > Some(100) && after == Some(writer.taken.len()));
     Ok(())
 }

@@ -1,8 +1,7 @@
 //! What no contract says: that a claim is made, by a guess, on tiles or by sweeps, and is right for small piles; that
-//! `settle` and `identity` use claims; and which piles count as high or flat. And a claim made by hand that is accepted.
+//! `settle` and `identity` use claims; and which piles count as high or flat.
 
-use crate::piles::{pile_on, ring, row};
-use sand_certify::certified;
+use crate::piles::{pile_on, row};
 use sand_group::identity;
 use sand_guess::{Claim, guessed, guessed_identity, is_flat, is_high, swept, toppled};
 use sand_model::{Edge, Pile, Shape};
@@ -35,15 +34,6 @@ fn claims_by_hand(rt: HostRuntime) -> Result<(), Fail> {
     }
     let most = row(rt.alloc(), &[1_099_511_627_775]).ok_or("no pile")?;
     assert!(rt; is_claimed(guessed(rt.alloc(), &most), &[274_877_906_943]));
-    Ok(())
-}
-
-// All three sites topple once and get a grain from each neighbour; each may burn in one turn.
-#[test]
-fn accepts_the_odometer(rt: HostRuntime) -> Result<(), Fail> {
-    let pile = ring(rt.alloc(), &[4, 4, 4]).ok_or("no pile")?;
-    let left = certified(rt.alloc(), &pile, &[1, 1, 1], &[1, 2, 3])?;
-    assert!(rt; left.is_some_and(|heights| heights.as_slice() == [2, 2, 2].as_slice()));
     Ok(())
 }
 
@@ -86,39 +76,32 @@ fn finds_the_identity_by_a_claim(rt: HostRuntime) -> Result<(), Fail> {
     Ok(())
 }
 
-// Whether a square with `each` grains on every site counts as high.
-fn is_high_at(alloc: Global, side: usize, each: u64) -> Option<bool> {
+// Whether a square with `each` grains on every site but one, which has `heap`, counts as high.
+fn is_high_with(alloc: Global, side: usize, each: u64, site: usize, heap: u64) -> Option<bool> {
     let shape = Shape::new(side, side).ok()?;
-    let heights = vec![in alloc; each; shape.sites()].ok()?;
+    let mut heights = vec![in alloc; each; shape.sites()].ok()?;
+    *heights.get_mut(site)? = heap;
     let pile = Pile::new(alloc, shape, &heights).ok()?;
     Some(is_high(&pile))
 }
 
+// On a small grid the queue takes few turns, however high the pile. A plain queue was counted to take 400 turns per site
+// for a heap in the middle, 7 for one at the middle of the west edge, and less than 1 for one in a corner.
 #[test]
 fn sees_what_is_high(rt: HostRuntime) {
-    // On a small grid the queue takes few turns, however high the pile.
-    for (side, each, expected) in [(64, 6, true), (64, 3, false), (16, 1_000_000, false)] {
-        let seen = is_high_at(rt.alloc(), side, each);
-        assert!(rt; seen == Some(expected), "{each} on {side}");
-    }
-}
-
-// Whether 13,000 grains at a site of an empty square count as high.
-fn is_heap_high(alloc: Global, site: usize) -> Option<bool> {
-    let shape = Shape::new(64, 64).ok()?;
-    let mut heights = vec![in alloc; 0u64; shape.sites()].ok()?;
-    *heights.get_mut(site)? = 13_000;
-    let pile = Pile::new(alloc, shape, &heights).ok()?;
-    Some(is_high(&pile))
-}
-
-#[test]
-fn sees_which_heap_is_high(rt: HostRuntime) {
-    // A plain queue was counted to take 400 turns per site if the heap is in the middle, 7 if it is at the middle of the
-    // west edge, and less than 1 if it is in a corner.
-    for (site, expected) in [(32 * 64 + 32, true), (32 * 64, false), (0, false)] {
-        let seen = is_heap_high(rt.alloc(), site);
-        assert!(rt; seen == Some(expected), "heap at {site}");
+    for (side, each, site, heap, expected) in [
+        (64, 6, 0, 6, true),
+        (64, 3, 0, 3, false),
+        (16, 1_000_000, 0, 1_000_000, false),
+        (64, 0, 32 * 64 + 32, 13_000, true),
+        (64, 0, 32 * 64, 13_000, false),
+        (64, 0, 0, 13_000, false),
+    ] {
+        let seen = is_high_with(rt.alloc(), side, each, site, heap);
+        assert!(rt;
+            seen == Some(expected),
+            "{each} on {side}, {heap} at {site}"
+        );
     }
 }
 

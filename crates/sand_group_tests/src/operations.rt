@@ -1,12 +1,9 @@
 //! Worked examples of the burning test and of the group.
 
 use crate::piles::{pile_on, row};
-use sand_group::{
-    Burned, GroupFault, Recurrent, act, add, burn, equivalent_recurrent, identity, inverse,
-    multiple,
-};
+use sand_group::{Burned, GroupFault, Recurrent, act, add, burn, identity, inverse};
 use sand_model::{Edge, Pile, Shape};
-use std::alloc::{AllocError, Global};
+use std::alloc::Global;
 use std::test::Fail;
 
 // Whether burning finds this forbidden set; if the set is empty, that the pile is recurrent.
@@ -72,6 +69,22 @@ fn knows_the_identity(rt: HostRuntime) {
     }
 }
 
+// The number of the fault of a call of the group, or 0.
+fn refusal<T: Drop>(called: Result<T, GroupFault>) -> u32 {
+    called.map_or_else(|fault| fault.number(), |_| 0)
+}
+
+#[test]
+fn refuses_what_is_not_recurrent(rt: HostRuntime) -> Result<(), Fail> {
+    for (heights, burns, made) in [([3, 1], 0, 0), ([0, 0], 0, 8), ([4, 0], 7, 7)] {
+        let pile = row(rt.alloc(), &heights).ok_or("no pile")?;
+        assert!(rt; refusal(burn(rt.alloc(), &pile)) == burns);
+        assert!(rt; refusal(Recurrent::from_pile(rt.alloc(), &pile)) == made);
+        drop(pile);
+    }
+    Ok(())
+}
+
 // A recurrent pile in one row.
 fn recurrent(alloc: Global, heights: &[u64]) -> Option<Recurrent> {
     Recurrent::from_pile(alloc, &row(alloc, heights)?).ok()
@@ -91,83 +104,14 @@ fn adds_in_one_shape(rt: HostRuntime) {
     assert!(rt; sum.is_some_and(|sum| refusal(sum) == 9));
 }
 
-// The group of two sites has 15 elements, and 2^64 - 1 is a multiple of 15.
 #[test]
-fn inverts_and_multiplies(rt: HostRuntime) -> Result<(), Fail> {
+fn inverts_and_acts(rt: HostRuntime) -> Result<(), Fail> {
     let pile = recurrent(rt.alloc(), &[3, 1]).ok_or("not recurrent")?;
     assert!(rt; is_made(inverse(rt.alloc(), &pile), &[0, 2]));
-    for (n, heights) in [
-        (0, [3, 3]),
-        (1, [3, 1]),
-        (2, [2, 3]),
-        (3, [2, 1]),
-        (7, [0, 1]),
-        (15, [3, 3]),
-        (u64::MAX - 1, [0, 2]),
-        (u64::MAX, [3, 3]),
-    ] {
-        assert!(rt;
-            is_made(multiple(rt.alloc(), &pile, n), &heights),
-            "{n} copies"
-        );
-    }
     drop(pile);
-    Ok(())
-}
-
-#[test]
-fn acts(rt: HostRuntime) -> Result<(), Fail> {
     let full = recurrent(rt.alloc(), &[3, 3]).ok_or("not recurrent")?;
     assert!(rt; full.pile().shape().sites() == 2);
     assert!(rt; is_made(act(rt.alloc(), &full, 0), &[1, 0]));
     drop(full);
-    Ok(())
-}
-
-// The number of the fault of a call of the group, or 0.
-fn refusal<T: Drop>(called: Result<T, GroupFault>) -> u32 {
-    called.map_or_else(|fault| fault.number(), |_| 0)
-}
-
-#[test]
-fn refuses_what_is_not_recurrent(rt: HostRuntime) -> Result<(), Fail> {
-    for (heights, burns, made) in [([3, 1], 0, 0), ([0, 0], 0, 8), ([4, 0], 7, 7)] {
-        let pile = row(rt.alloc(), &heights).ok_or("no pile")?;
-        assert!(rt; refusal(burn(rt.alloc(), &pile)) == burns);
-        assert!(rt; refusal(Recurrent::from_pile(rt.alloc(), &pile)) == made);
-        drop(pile);
-    }
-    Ok(())
-}
-
-#[test]
-fn numbers_of_the_faults_of_the_group(rt: HostRuntime) {
-    for (fault, number) in [
-        (GroupFault::Unstable, 7),
-        (GroupFault::NotRecurrent, 8),
-        (GroupFault::Shapes, 9),
-        (GroupFault::Memory(AllocError), 4),
-    ] {
-        assert!(rt; fault.number() == number);
-    }
-}
-
-#[test]
-fn finds_the_equivalent_recurrent_pile(rt: HostRuntime) -> Result<(), Fail> {
-    for (width, edge, heights, expected) in [
-        (
-            2,
-            Edge::Open,
-            [9, 0, 0, 5].as_slice(),
-            [1, 3, 3, 1].as_slice(),
-        ),
-        (2, Edge::Open, &[0, 0, 0, 1], &[2, 2, 2, 3]),
-        (3, Edge::Cylinder, &[7, 0, 0, 0, 0, 1], &[0, 3, 3, 3, 1, 2]),
-    ] {
-        let pile = pile_on(rt.alloc(), width, 2, edge, heights).ok_or("no pile")?;
-        let made = equivalent_recurrent(rt.alloc(), &pile);
-        drop(pile);
-        assert!(rt; is_made(made, expected), "{heights:?}");
-    }
     Ok(())
 }

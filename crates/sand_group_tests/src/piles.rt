@@ -1,7 +1,7 @@
 //! Piles, their limit, and one toppling.
 
-use sand_model::{Edge, Pile, PileFault, Shape, ToppleFault, topple};
-use std::alloc::{AllocError, Global};
+use sand_model::{Edge, Pile, Shape, ToppleFault, topple};
+use std::alloc::Global;
 use std::test::Fail;
 
 /// A pile on a grid with this edge, or `None` if it is rejected.
@@ -19,11 +19,6 @@ pub(crate) fn pile_on(
 /// A pile in one row with open ends.
 pub(crate) fn row(alloc: Global, heights: &[u64]) -> Option<Pile> {
     pile_on(alloc, heights.len(), 1, Edge::Open, heights)
-}
-
-/// A pile in one row with joined ends.
-pub(crate) fn ring(alloc: Global, heights: &[u64]) -> Option<Pile> {
-    pile_on(alloc, heights.len(), 1, Edge::Cylinder, heights)
 }
 
 #[test]
@@ -100,16 +95,4 @@ fn a_site_topples_from_height_4_on(rt: HostRuntime) {
         let topples = topples(rt.alloc(), start, site, expected, heights);
         assert!(rt; topples == Some(true), "{start:?}");
     }
-}
-
-#[test]
-fn numbers_of_the_faults_of_piles(rt: HostRuntime) {
-    for (fault, number) in [
-        (PileFault::Length, 2),
-        (PileFault::TooManyGrains, 3),
-        (PileFault::Memory(AllocError), 4),
-    ] {
-        assert!(rt; fault.number() == number);
-    }
-    assert!(rt; ToppleFault::TooLow.number() == 5);
 }

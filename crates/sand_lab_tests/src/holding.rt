@@ -1,12 +1,10 @@
 //! A gate that holds threads until others have begun a turn. They pass it only if they run at the same time.
 
 use sand_lab::{Gate, Role};
+use sand_testing::meeting::Meeting;
 use std::alloc::{AllocError, Global};
 use std::sync::atomic::AtomicBool;
 use std::sync::atomic::Ordering::SeqCst;
-
-// How often a held thread checks before it goes on.
-const PATIENCE: u64 = 1_000_000_000;
 
 /// A turn of a thread: its role, its number in that role, and the number of the turn.
 #[derive(Clone, Copy, Debug, PartialEq, Eq)]
@@ -17,19 +15,7 @@ pub struct Turn(Role, u32, u32);
 struct Hold {
     held: Turn,
     until: Turn,
-    begun: AtomicBool,
-}
-
-impl Hold {
-    // Returns true once the awaited turn has begun, and false if it does not begin.
-    fn has_begun(&self) -> bool {
-        for _ in 0..PATIENCE {
-            if self.begun.load(SeqCst) {
-                return true;
-            }
-        }
-        false
-    }
+    begun: Meeting,
 }
 
 /// Turns, each held until the next one of the list has begun, and whether a thread was released early. A list may have
@@ -47,7 +33,7 @@ impl Chain {
             holds.push(Hold {
                 held: *held,
                 until: *until,
-                begun: AtomicBool::new(false),
+                begun: Meeting::new(),
             })?;
         }
         let failed = AtomicBool::new(false);
@@ -63,7 +49,7 @@ impl Chain {
     fn begin(&self, turn: Turn) {
         for hold in &self.holds {
             if hold.until == turn {
-                hold.begun.store(true, SeqCst);
+                hold.begun.begin();
             }
         }
     }
@@ -74,7 +60,7 @@ impl Gate for Chain {
         let turn = Turn(role, who, turn);
         self.begin(turn);
         for hold in &self.holds {
-            if hold.held == turn && !hold.has_begun() {
+            if hold.held == turn && !hold.begun.waited_for(1) {
                 self.failed.store(true, SeqCst);
             }
         }

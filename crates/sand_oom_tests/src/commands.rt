@@ -9,28 +9,19 @@ use std::test::Fail;
 use std::thread::Threads;
 
 // A command line, its standard input, and its standard output, set apart by `|`.
-const COMMANDS: [&str; 13] = [
+const COMMANDS: [&str; 6] = [
     "settle|3 1\n0 4 0\n|3 1\n1 0 1\nodometer\n0 1 0\nlost 2\ntopplings 1\n",
-    "settle --pgm|2 2\n4 4\n4 4\n|P2\n2 2\n3\n2 2\n2 2\n",
-    "settle --pile|3 1\n0 4 0\n|3 1\n1 0 1\n",
     "burn|2 1\n0 0\n|forbidden 2\n0 0\n1 0\n",
     "identity --width 3 --height 3||3 3\n2 1 2\n1 0 1\n2 1 2\n",
     "add|2 1\n3 1\n2 1\n3 3\n|2 1\n3 1\n",
     "inverse|2 1\n3 1\n|2 1\n0 2\n",
-    "multiple --times 3|2 1\n3 1\n|2 1\n2 1\n",
-    "recurrent|3 1\n5 0 1\n|3 1\n1 1 1\n",
     "drops|3 3\n3 3 3\n3 3 3\n3 3 3\n4 0\n|number site size area reach lost\n0 4 10 9 2 12\n1 0 0 0 0 0\n\
      3 3\n2 3 1\n3 0 3\n1 3 1\nlost 12\ntopplings 10\n",
-    "drops --count 3 --seed 7|1 1\n2\n|number site size area reach lost\n0 0 0 0 0 0\n1 0 1 1 0 4\n2 0 0 0 0 0\n\
-     1 1\n1\nlost 4\ntopplings 1\n",
-    "drops --count 2 --from 5 --table|1 1\n2\n|number site size area reach lost\n5 0 0 0 0 0\n6 0 1 1 0 4\n",
-    "drops --count 3 --pile|1 1\n2\n|1 1\n1\n",
 ];
 
-const RUNS: [&str; 3] = [
+const RUNS: [&str; 2] = [
     "lab --droppers 2 --drops 3 --epochs 2|1 1\n0\n|epoch drops topplings lost grains\n0 6 1 4 2\n1 6 2 8 0\n\
      total 12 3 12 0\n1 1\n0\nodometer\n3\n",
-    "lab --droppers 2 --drops 3 --epochs 2 --pile|1 1\n0\n|1 1\n0\n",
     "lab --droppers 1 --drops 2 --journal|1 1\n0\n|epoch drops topplings lost grains\n0 2 0 0 2\ntotal 2 0 0 2\n\
      1 1\n2\nodometer\n0\njournal\n0 0 0 0\n0 1 0 0\n",
 ];

@@ -8,9 +8,6 @@
 //! A program cannot refuse its own allocations. `tools/refusals`, which the gate calls, loads a library that does;
 //! under plain `rt ci` nothing is refused, and each call is made once. Each trial prints how many allocations were
 //! refused.
-//!
-//! Large values are mostly dropped by `drop`. If one goes out of scope instead, the function's proof takes it apart field
-//! by field, on each way out.
 #![tactic(auto)]
 
 #[cfg(test)]

@@ -3,11 +3,12 @@
 use crate::memory::was_refused;
 use crate::piles::full;
 use crate::trying::refused;
+use sand_model::Edge::Open;
 use sand_shared::{Pass, SharedFault, SharedPile, SiteCounts};
 use sand_testing::pile_with_passes::Call::{
-    Counts, DropRest, IntoBare, Join, JoinAll, JoinBare, Rows, Split, SplitRows, Sweep, Toppled,
+    DropRest, Holds, IntoBare, Join, JoinAll, JoinBare, Split, SplitRows, Sweep, Toppled,
 };
-use sand_testing::pile_with_passes::Returned::{Between, Done, Fault, Has, Number};
+use sand_testing::pile_with_passes::Returned::{Done, Fault, Has, Number};
 use sand_testing::pile_with_passes::{Call, Ending, Left, PileWithPasses, Returned, Start};
 use std::alloc::Global;
 use std::test::Fail;
@@ -43,15 +44,13 @@ struct Trial {
 // Three by three sites of three grains, and a quota of five.
 const SPLIT: Trial = Trial {
     name: "SharedPile::split",
-    start: Start((3, 3), &[3; 9], 5),
+    start: Start(Open, (3, 3), &[3; 9], 5),
     before: &[],
-    unchanged: &[(Counts(0), Has(5, 0, 0)), (Rows(0), Between(0, 3))],
+    unchanged: &[(Holds(0), Has(5, 0, 0, 0, 3))],
     call: Some(Split(0, 2)),
     after: &[
-        (Counts(1), Has(2, 0, 0)),
-        (Rows(1), Between(0, 0)),
-        (Counts(0), Has(3, 0, 0)),
-        (Rows(0), Between(0, 3)),
+        (Holds(1), Has(2, 0, 0, 0, 0)),
+        (Holds(0), Has(3, 0, 0, 0, 3)),
         (Join(0, 1), Done),
     ],
     ending: Ending::Close,
@@ -63,10 +62,8 @@ const SPLIT_ROWS: Trial = Trial {
     name: "SharedPile::split_rows",
     call: Some(SplitRows(0, 2)),
     after: &[
-        (Counts(1), Has(0, 0, 0)),
-        (Rows(1), Between(1, 3)),
-        (Counts(0), Has(5, 0, 0)),
-        (Rows(0), Between(0, 1)),
+        (Holds(1), Has(0, 0, 0, 1, 3)),
+        (Holds(0), Has(5, 0, 0, 0, 1)),
         (Join(0, 1), Done),
     ],
     ..SPLIT
@@ -75,13 +72,16 @@ const SPLIT_ROWS: Trial = Trial {
 // A pass of quota 2 that has dropped twice is joined to a child of quota 2, which has to grow for its receipts.
 const JOIN: Trial = Trial {
     name: "SharedPile::join",
-    start: Start((1, 1), &[0], 4),
+    start: Start(Open, (1, 1), &[0], 4),
     before: &[
         (Split(0, 2), Done),
         (DropRest(0, 0), Done),
         (DropRest(1, 0), Done),
     ],
-    unchanged: &[(Counts(1), Has(0, 2, 4)), (Counts(0), Has(0, 2, 2))],
+    unchanged: &[
+        (Holds(1), Has(0, 2, 4, 0, 0)),
+        (Holds(0), Has(0, 2, 2, 0, 1)),
+    ],
     call: Some(Join(1, 0)),
     after: &[],
     ending: Ending::Close,
@@ -92,7 +92,7 @@ const JOIN: Trial = Trial {
 // receipts of each.
 const JOIN_ALL: Trial = Trial {
     name: "SharedPile::join_all",
-    start: Start((1, 1), &[0], 14),
+    start: Start(Open, (1, 1), &[0], 14),
     before: &[
         (Split(0, 1), Done),
         (Split(0, 1), Done),
@@ -109,7 +109,7 @@ const JOIN_ALL: Trial = Trial {
 // Three rows of one site: the pass of the second takes in that of the third, and has to grow for its count.
 const JOIN_BARE: Trial = Trial {
     name: "SharedPile::join_bare",
-    start: Start((1, 3), &[1; 3], 0),
+    start: Start(Open, (1, 3), &[1; 3], 0),
     before: &[
         (SplitRows(0, 1), Done),
         (SplitRows(0, 1), Done),
@@ -124,10 +124,10 @@ const JOIN_BARE: Trial = Trial {
     left: Left(&[], &[1; 3], &[0; 3], 0),
 };
 
-// Two sites that topple once each.
+// Two sites that topple once each, as the pile is closed.
 const CLOSE: Trial = Trial {
     name: "SharedPile::close",
-    start: Start((2, 1), &[4, 4], 0),
+    start: Start(Open, (2, 1), &[4, 4], 0),
     before: &[],
     unchanged: &[(Toppled(0, 0), Number(0)), (Toppled(0, 1), Number(0))],
     call: None,
@@ -147,7 +147,7 @@ const CLOSE_SWEPT: Trial = Trial {
 // What the second site gives to the first topples when the pile is settled.
 const SETTLE_SWEPT: Trial = Trial {
     name: "SharedPile::settle, after a sweep",
-    start: Start((2, 1), &[3, 4], 0),
+    start: Start(Open, (2, 1), &[3, 4], 0),
     before: &[(Sweep(0), Number(1))],
     unchanged: &[(Toppled(0, 0), Number(0)), (Toppled(0, 1), Number(1))],
     ending: Ending::Settle,
@@ -158,10 +158,10 @@ const SETTLE_SWEPT: Trial = Trial {
 // The second site topples in place, and so the first one in plain memory.
 const RECORD_NOW: Trial = Trial {
     name: "SharedPile::record_now",
-    start: Start((2, 1), &[3, 3], 1),
+    start: Start(Open, (2, 1), &[3, 3], 1),
     before: &[(DropRest(0, 1), Done), (Sweep(0), Number(1))],
     unchanged: &[
-        (Counts(0), Has(0, 1, 1)),
+        (Holds(0), Has(0, 1, 1, 0, 1)),
         (Toppled(0, 0), Number(0)),
         (Toppled(0, 1), Number(1)),
     ],
@@ -173,7 +173,7 @@ const RECORD_NOW: Trial = Trial {
 // Two sites of seven grains.
 const SETTLE_REST: Trial = Trial {
     name: "SharedPile::settle_rest",
-    start: Start((2, 1), &[7, 7], 0),
+    start: Start(Open, (2, 1), &[7, 7], 0),
     before: &[(IntoBare(0), Done)],
     unchanged: &[],
     ending: Ending::SettleRest,
@@ -190,7 +190,7 @@ fn call(
     if let Some(call) = trial.call {
         let returned = pile.call(alloc, call);
         was_refused(alloc);
-        if let Fault(fault) = returned {
+        if let Some(Fault(fault)) = returned {
             return Err((fault, pile));
         }
     }

@@ -12,13 +12,13 @@ use crate::settling::{full_of_one_thread, is_after_the_drop};
 use sand_desk::{DeskFault, read_pile, status, write_fault};
 use sand_group::GroupFault;
 use sand_lab::{Album, LabFault, Open, Report, Wish};
-use sand_model::{GRAIN_LIMIT, Pile, Shape, topple};
+use sand_model::{Edge, GRAIN_LIMIT, Pile, PileFault, Shape, ToppleFault, topple};
 use sand_settle::{OneFault, OnePile, SettleFault, settle};
 use sand_shared::{BarePass, CloseFault, JoinFault, SharedFault, SharedPile, SplitFault};
 use sand_testing::pile_with_passes::Call::{
-    Counts, DropAll, DropAt, IntoBare, IsWhole, Rows, Sweep, Tally, Toppled,
+    DropAll, DropAt, Holds, IntoBare, IsWhole, Sweep, Tally, Toppled,
 };
-use sand_testing::pile_with_passes::Returned::{Between, Done, Fault, Has, Is, Number};
+use sand_testing::pile_with_passes::Returned::{Done, Fault, Has, Is, Number};
 use sand_testing::pile_with_passes::{PileWithPasses, Start, is_there};
 use sand_testing::piles::{one_site, open_pile};
 use sand_testing::records::{dropped_on_a_site, is_record, is_settled};
@@ -139,14 +139,13 @@ fn passes_take_no_memory(rt: HostRuntime) -> Result<(), Fail> {
         (DropAt(0, 1), Fault(13)),
         (Tally(0), Number(3)),
         (Sweep(0), Number(2)),
-        (Counts(0), Has(0, 3, 3)),
+        (Holds(0), Has(0, 3, 3, 0, 2)),
         (Toppled(0, 0), Number(1)),
         (Toppled(0, 1), Number(1)),
-        (Rows(0), Between(0, 2)),
         (IsWhole(0), Is(true)),
         (IntoBare(0), Done),
     ];
-    let pile = PileWithPasses::played(rt.alloc(), Start((1, 2), &[4, 4], 3), &[]);
+    let pile = PileWithPasses::played(rt.alloc(), Start(Edge::Open, (1, 2), &[4, 4], 3), &[]);
     let pile = pile.ok_or("a shared pile")?;
     quiet!(rt, is_there(pile.play(rt.alloc(), &calls)));
     Ok(())
@@ -232,9 +231,17 @@ fn albums_and_reports_take_no_memory(rt: HostRuntime) -> Result<(), Fail> {
 fn numbers_of_faults_take_no_memory(rt: HostRuntime) {
     quiet!(
         rt,
+        PileFault::Length.number() == 2,
+        PileFault::TooManyGrains.number() == 3,
+        PileFault::Memory(AllocError).number() == 4,
+        ToppleFault::TooLow.number() == 5,
         SettleFault::Memory(AllocError).number() == 4,
         OneFault::Full.number() == 6,
+        OneFault::Memory(AllocError).number() == 4,
+        GroupFault::Unstable.number() == 7,
         GroupFault::NotRecurrent.number() == 8,
+        GroupFault::Shapes.number() == 9,
+        GroupFault::Memory(AllocError).number() == 4,
         SharedFault::TooManyGrains.number() == 3,
         SplitFault::Rows.number() == 11,
         JoinFault::Apart.number() == 12,

@@ -8,7 +8,9 @@ use sand_desk::{journal_text, lab_text};
 use sand_lab::{Album, Open, Report, Wish, sites_of};
 use sand_model::{Pile, Shape};
 use sand_shared::Record;
+use sand_testing::pile_with_passes::Left;
 use sand_testing::piles::{one_site, open_pile};
+use sand_testing::records::is_record;
 use sand_testing::runs::{run_into, seen_anew};
 use sand_testing::wish;
 use std::alloc::Global;
@@ -18,21 +20,16 @@ use std::sync::atomic::Ordering::SeqCst;
 use std::test::Fail;
 use std::thread::Threads;
 
-// The record of a pile whose sites are all alike: the drops, the height of each site, how often each toppled, and the
-// grains lost.
-#[derive(Clone, Copy)]
-struct Uniform(usize, u64, u64, u64);
-
-// A run of two epochs on a square whose sites are all alike, and the result of each epoch and of both.
+// A run of two epochs on a square, and what each epoch and both leave. The first one leaves two grains on the first site.
 #[derive(Clone, Copy)]
 struct Trial {
     name: &'static str,
     side: usize,
     start: &'static [u64],
     wish: Wish,
-    first: Uniform,
-    second: Uniform,
-    total: Uniform,
+    first: Left<'static>,
+    second: Left<'static>,
+    total: Left<'static>,
 }
 
 const TRIALS: [Trial; 3] = [
@@ -41,27 +38,27 @@ const TRIALS: [Trial; 3] = [
         side: 1,
         start: &[0],
         wish: wish!(droppers: 2, drops: 3, epochs: 2),
-        first: Uniform(6, 2, 1, 4),
-        second: Uniform(6, 0, 2, 8),
-        total: Uniform(12, 0, 3, 12),
+        first: Left(&[0; 6], &[2], &[1], 4),
+        second: Left(&[0; 6], &[0], &[2], 8),
+        total: Left(&[0; 12], &[0], &[3], 12),
     },
     Trial {
         name: "run, with workers and observers",
         side: 1,
-        start: &[3],
+        start: &[2],
         wish: wish!(seed: 7, droppers: 3, drops: 4, epochs: 2, workers: 2, sweeps: 2, observers: 2),
-        first: Uniform(12, 3, 3, 12),
-        second: Uniform(12, 3, 3, 12),
-        total: Uniform(24, 3, 6, 24),
+        first: Left(&[0; 12], &[2], &[3], 12),
+        second: Left(&[0; 12], &[2], &[3], 12),
+        total: Left(&[0; 24], &[2], &[6], 24),
     },
     Trial {
         name: "run, with a row for each worker",
         side: 2,
         start: &[4; 4],
         wish: wish!(epochs: 2, workers: 2, sweeps: 2),
-        first: Uniform(0, 2, 1, 8),
-        second: Uniform(0, 2, 0, 0),
-        total: Uniform(0, 2, 1, 8),
+        first: Left(&[], &[2; 4], &[1; 4], 8),
+        second: Left(&[], &[2; 4], &[0; 4], 0),
+        total: Left(&[], &[2; 4], &[1; 4], 8),
     },
 ];
 
@@ -73,22 +70,16 @@ fn streams_and_albums_report_out_of_memory(rt: HostRuntime) -> Result<(), Fail> 
     refused!(rt, "Album::new", alloc => Album::new(alloc, 5), album => album.places() == 5)
 }
 
-fn are_all(numbers: &[u64], number: u64) -> bool {
-    numbers.iter().all(|other| *other == number)
-}
-
-fn is_uniform(record: &Record, uniform: Uniform) -> bool {
-    let Uniform(drops, height, toppled, lost) = uniform;
-    (record.history().len(), record.lost()) == (drops, lost)
-        && are_all(record.pile().heights(), height)
-        && are_all(record.odometers(), toppled)
+fn has_left(record: &Record, left: Left<'_>) -> bool {
+    let Left(history, heights, odometer, lost) = left;
+    is_record(record, history, heights, odometer, lost)
 }
 
 // Whether a report is right.
 fn is_report(report: &Report, trial: &Trial) -> bool {
     matches!(report.records(), [first, second]
-        if is_uniform(first, trial.first) && is_uniform(second, trial.second))
-        && is_uniform(report.total(), trial.total)
+        if has_left(first, trial.first) && has_left(second, trial.second))
+        && has_left(report.total(), trial.total)
 }
 
 // Whether a run into an album has the right result, or the number of its fault.
@@ -118,7 +109,7 @@ fn stays_published<R: Threads + Sync>(
     trial: &Trial,
     album: &Album,
 ) -> bool {
-    let first = [Some((0, trial.first.1)), None];
+    let first = [Some((0, 2)), None];
     pictures(album) == first
         && run_once(rt, alloc, start, trial, album) == Err(17)
         && pictures(album) == first

@@ -7,8 +7,9 @@ use sand_desk::{
     burn_text, pgm_text, pile_text, read_drops, read_pile, read_two, settle_text, table_text,
 };
 use sand_group::burn;
+use sand_model::Edge;
 use sand_settle::settle;
-use sand_testing::piles::open_pile;
+use sand_testing::piles::{open_pile, pile_on};
 use std::test::Fail;
 
 #[test]
@@ -23,10 +24,17 @@ fn readings_report_out_of_memory(rt: HostRuntime) -> Result<(), Fail> {
 
 #[test]
 fn texts_of_piles_report_out_of_memory(rt: HostRuntime) -> Result<(), Fail> {
+    let pile = pile_on(
+        rt.alloc(),
+        3,
+        1,
+        Edge::Cylinder,
+        &[10, 0, 1_099_511_627_762],
+    )?;
+    refused!(rt, "pile_text", alloc => pile_text(alloc, &pile), text =>
+        text.as_slice() == b"3 1 c\n10 0 1099511627762\n".as_slice())?;
     let pile = full(rt.alloc())?;
     assert!(rt; pile.is_stable());
-    refused!(rt, "pile_text", alloc => pile_text(alloc, &pile), text =>
-        text.as_slice() == b"3 3\n3 3 3\n3 3 3\n3 3 3\n".as_slice())?;
     refused!(rt, "pgm_text", alloc => pgm_text(alloc, &pile), text =>
         text.as_slice() == b"P2\n3 3\n3\n3 3 3\n3 3 3\n3 3 3\n".as_slice())
 }

@@ -19,11 +19,14 @@ impl Meeting {
         }
     }
 
-    /// Returns true once `all` threads have begun, and false if they do not.
-    pub fn met(&self, all: u64) -> bool {
+    pub fn begin(&self) {
         self.begun.fetch_add(1, SeqCst);
+    }
+
+    /// Returns true once so many threads have begun, and false if they do not.
+    pub fn waited_for(&self, threads: u64) -> bool {
         for _ in 0..PATIENCE {
-            if self.begun.load(SeqCst) >= all {
+            if self.begun.load(SeqCst) >= threads {
                 return true;
             }
         }

@@ -23,7 +23,8 @@ fn take_turn(
     requires site { IfSome site (λ s. s < sites (grid_of_terms pile.now.terms)) }
     ensures { IsPassOf pile.now result.0 }
 {
-    let met = meeting.met(2);
+    meeting.begin();
+    let met = meeting.waited_for(2);
     let topplings = match site {
         Some(site) => {
             drop_rest(pile, &mut pass, site);

@@ -10,7 +10,7 @@ ghost use Rattle.sand_shared.specs.Passes.{IsPassOf};
 
 use crate::pairs::both_at_once;
 use crate::records::{drop_rest, is_record, is_settled};
-use sand_model::{Pile, Shape};
+use sand_model::{Edge, Pile, Shape};
 use sand_shared::{BarePass, DropFault, Pass, Receipt, Record, SharedPile, SiteCounts, SplitFault};
 use std::alloc::Global;
 use std::marker::Model;
@@ -40,9 +40,8 @@ pub enum Call {
     /// The last bare pass but one takes in the last.
     JoinBare,
     IsWhole(usize),
-    /// The quota and the drops of a pass.
-    Counts(usize),
-    Rows(usize),
+    /// What a pass has.
+    Holds(usize),
     /// The receipt of a pass at a place.
     Receipt(usize, usize),
     /// How often a pass has toppled a site of its rows.
@@ -58,14 +57,10 @@ pub enum Returned {
     Number(u64),
     Fault(u32),
     Is(bool),
-    /// The first row and one past the last.
-    Between(u16, u16),
     /// A drop's number and its site.
     Dropped(u64, usize),
-    /// The remaining quota of a pass, its number of receipts, and how many drops it has seen.
-    Has(u64, usize, u64),
-    /// The test names a pass, a receipt or a site that does not exist.
-    NoSuch,
+    /// The remaining quota of a pass, its number of receipts, how many drops it has seen, its first row and one past the last.
+    Has(u64, usize, u64, u16, u16),
 }
 
 /// The ways to end a shared pile. All but the last leave the same record.
@@ -81,15 +76,24 @@ pub enum Ending {
 
 pub const ENDINGS: [Ending; 2] = [Ending::Close, Ending::Settle];
 
-/// A start on a grid with open edges: its sides, its heights and a quota.
+/// A start: the edge and the sides of its grid, its heights and a quota.
 #[derive(Clone, Copy)]
-pub struct Start<'a>(pub (usize, usize), pub &'a [u64], pub u64);
+pub struct Start<'a>(pub Edge, pub (usize, usize), pub &'a [u64], pub u64);
 
 /// The expected contents of a record: its history, the heights, the odometer and the grains lost.
 #[derive(Clone, Copy)]
 pub struct Left<'a>(pub &'a [usize], pub &'a [u64], pub &'a [u64], pub u64);
 
 const NOTHING: Left<'static> = Left(&[], &[], &[], 0);
+
+/// A worked example: its name, a start, calls with what they return, and what both endings then leave; if that is not
+/// given, the pile is not ended.
+pub type Example = (
+    &'static str,
+    Start<'static>,
+    &'static [(Call, Returned)],
+    Option<Left<'static>>,
+);
 
 // Whether a site is in the grid, if there is one.
 fn is_inside(shape: Shape, site: Option<usize>) -> bool
@@ -241,8 +245,9 @@ impl PileWithPasses {
         start: Start<'_>,
         calls: &[(Call, Returned)],
     ) -> Option<PileWithPasses> {
-        let Start((width, height), heights, quota) = start;
-        let heights = Pile::new(alloc, Shape::new(width, height).ok()?, heights).ok()?;
+        let Start(edge, (width, height), heights, quota) = start;
+        let shape = Shape::with_edge(width, height, edge).ok()?;
+        let heights = Pile::new(alloc, shape, heights).ok()?;
         let pile = PileWithPasses::of_start(alloc, &heights, quota).ok();
         drop(heights);
         pile?.play(alloc, calls)
@@ -262,7 +267,7 @@ impl PileWithPasses {
             Call::StillMissing(times) if expected == Returned::Done => {
                 self.still_missing(alloc, times)
             }
-            _ if self.call(alloc, call) == expected => Some(self),
+            _ if self.call(alloc, call) == Some(expected) => Some(self),
             _ => {
                 drop(self);
                 None
@@ -270,8 +275,9 @@ impl PileWithPasses {
         }
     }
 
-    pub fn call(&mut self, alloc: Global, call: Call) -> Returned {
-        let returned = match call {
+    /// What a call returns; `None` if it names a pass, a receipt or a site that does not exist.
+    pub fn call(&mut self, alloc: Global, call: Call) -> Option<Returned> {
+        match call {
             Call::DropAt(pass, site) => self.drop_at(pass, site),
             Call::DropRest(pass, site) => self.drop_rest(pass, site),
             Call::DropAll(pass, list) => self.drop_all(pass, list),
@@ -284,14 +290,12 @@ impl PileWithPasses {
             Call::ThrowAway(pass) => self.throw_away(pass),
             Call::IntoBare(pass) => self.into_bare(pass),
             Call::JoinBare => self.join_bare(alloc),
-            Call::Counts(pass) => self.counts(pass),
             Call::IsWhole(pass) => self.is_whole(pass),
-            Call::Rows(pass) => self.rows(pass),
+            Call::Holds(pass) => self.holds(pass),
             Call::Receipt(pass, place) => self.receipt(pass, place),
             Call::Toppled(pass, site) => self.toppled(pass, site),
             Call::StillMissing(_) => None,
-        };
-        returned.unwrap_or(Returned::NoSuch)
+        }
     }
 
     fn drop_at(&mut self, pass: usize, site: usize) -> Option<Returned> {
@@ -401,19 +405,16 @@ impl PileWithPasses {
         Some(Returned::Fault(fault.number()))
     }
 
-    fn counts(&self, pass: usize) -> Option<Returned> {
+    fn holds(&self, pass: usize) -> Option<Returned> {
         let pass = self.passes.get(pass)?;
-        Some(Returned::Has(pass.left(), pass.receipts().len(), pass.seen()))
+        let (first, end) = pass.rows();
+        let drops = pass.receipts().len();
+        Some(Returned::Has(pass.left(), drops, pass.seen(), first, end))
     }
 
     fn is_whole(&self, pass: usize) -> Option<Returned> {
         let is_whole = self.pile.is_whole(self.passes.get(pass)?);
         Some(Returned::Is(is_whole))
-    }
-
-    fn rows(&self, pass: usize) -> Option<Returned> {
-        let (first, end) = self.passes.get(pass)?.rows();
-        Some(Returned::Between(first, end))
     }
 
     fn receipt(&self, pass: usize, place: usize) -> Option<Returned> {
@@ -540,8 +541,8 @@ impl PileWithPasses {
         }
     }
 
-    /// The pile, if this ending fails because something is missing.
-    pub fn misses(self, alloc: Global, ending: Ending) -> Option<PileWithPasses> {
+    // The pile, if this ending fails because something is missing.
+    fn misses(self, alloc: Global, ending: Ending) -> Option<PileWithPasses> {
         match self.end(alloc, ending, NOTHING) {
             Err((14, pile)) => Some(pile),
             ended => {
@@ -582,13 +583,16 @@ pub fn is_there(pile: Option<PileWithPasses>) -> bool {
     is_there
 }
 
-/// Whether, after these calls, both endings have this result.
+/// Whether these calls return what is expected, and both endings then have this result, if there is one.
 pub fn both_leave(
     alloc: Global,
     start: Start<'_>,
     calls: &[(Call, Returned)],
-    left: Left<'_>,
+    left: Option<Left<'_>>,
 ) -> bool {
+    let Some(left) = left else {
+        return is_there(PileWithPasses::played(alloc, start, calls));
+    };
     ENDINGS.iter().all(|ending| match PileWithPasses::played(alloc, start, calls) {
         Some(pile) => pile.leaves(alloc, *ending, left),
         None => false,
