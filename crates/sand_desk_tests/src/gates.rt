@@ -1,9 +1,9 @@
 //! How often a command calls its gate.
 
+use crate::runs::command;
 use crate::stopping::Sluggish;
 use sand_desk::run_gated_command;
 use sand_testing::counting::Count;
-use sand_testing::words::command;
 use std::alloc::Global;
 use std::io::Write;
 use std::test::Fail;

@@ -11,8 +11,6 @@
 #![tactic(auto)]
 
 #[cfg(test)]
-mod commands;
-#[cfg(test)]
 mod group;
 #[cfg(test)]
 mod memory;
