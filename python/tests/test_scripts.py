@@ -101,6 +101,22 @@ class OfCheck(OfScripts):
         status, said, _ = self.run_in("./check")
         self.assertEqual((status, said.splitlines()[-1]), (1, "18 passed, 1 failed"))
 
+    def test_another_debian_is_tried_beside_the_tests(self):
+        meet = 'touch "$LOG.$1"; for _ in {1..3000}; do [ -e "$LOG.$2" ] && break; sleep 0.01; done; [ -e "$LOG.$2" ]'
+        stand_in(self.top / "tools/other-debian", "set debian tests", f"{meet} && echo 'on trixie: 2 passed, 0 failed'")
+        stand_in(self.top / "tools/at-a-terminal", "set tests debian", f"{meet} && echo 'terminal: 2 passed, 0 failed'")
+        status, said, _ = self.run_in("./check")
+        lines = said.splitlines()
+        self.assertEqual((status, lines[-1]), (0, "27 passed, 0 failed"))
+        self.assertLess(lines.index("terminal: 2 passed, 0 failed"), lines.index("on trixie: 2 passed, 0 failed"))
+
+    def test_a_failed_test_ends_what_is_tried_beside_it(self):
+        trap = """trap 'kill $! 2> /dev/null; echo ended >> "$LOG"; exit 1' TERM"""
+        stand_in(self.top / "tools/other-debian", trap, 'touch "$LOG.begun"; sleep 60 & wait')
+        stand_in(self.top / "tools/cases", 'for _ in {1..3000}; do [ -e "$LOG.begun" ] && break; sleep 0.01; done', "exit 1")
+        status, said, _ = self.run_in("./check")
+        self.assertEqual((status, self.noted()), (1, ["rt ci", "ended"]))
+
     def test_the_refusals_and_the_build_read_what_the_proof_wrote(self):
         stand_in(self.top / "tools/wrong-bodies", 'cat >> "$LOG"', "echo 'part: 2 passed, 0 failed'")
         stand_in(self.top / "build", '[ "$1" != --after-ci ] || cat >> "$LOG"', "echo 'part: 2 passed, 0 failed'")
