@@ -20,7 +20,7 @@ use sand_settle::settle;
 use std::alloc::Global;
 
 /// The settled record of the pile in the input as text, or only its pile, as text or as a picture.
-pub(crate) fn settle_input(alloc: Global, input: &[u8], form: Form) -> Result<Vec<u8>, DeskFault>
+pub(crate) fn settle_output(alloc: Global, input: &[u8], form: Form) -> Result<Vec<u8>, DeskFault>
     ensures text { IfOk result (λ text. IsSettleText form input.now text.items) }
     ensures fault { IfErr result (Finds (IsUnreadable (pile_of input.now))) }
 {
@@ -46,7 +46,7 @@ fn pile_or_graymap(alloc: Global, pile: &Pile, pgm: bool) -> Result<Vec<u8>, Des
 }
 
 /// The result of the burning test on the pile in the input. Fails if the pile is not stable (`Unstable`).
-pub(crate) fn burn_input(alloc: Global, input: &[u8]) -> Result<Vec<u8>, DeskFault>
+pub(crate) fn burn_output(alloc: Global, input: &[u8]) -> Result<Vec<u8>, DeskFault>
     ensures text { IfOk result (λ text. IsBurnText input.now text.items) }
     ensures fault { IfErr result (Finds (IsBurnFault input.now)) }
 {
@@ -79,7 +79,7 @@ pub(crate) fn identity_text(
 
 /// The sum of the two piles in the input, as text or as a picture. Fails if the first pile is not recurrent, then if
 /// the second is not (`Unstable`, `NotRecurrent`), then if the shapes differ (`Shapes`).
-pub(crate) fn sum_input(alloc: Global, input: &[u8], pgm: bool) -> Result<Vec<u8>, DeskFault>
+pub(crate) fn sum_output(alloc: Global, input: &[u8], pgm: bool) -> Result<Vec<u8>, DeskFault>
     ensures text { IfOk result (λ text. IsSumText pgm input.now text.items) }
     ensures fault { IfErr result (Finds (IsSumFault input.now)) }
 {
@@ -92,7 +92,7 @@ pub(crate) fn sum_input(alloc: Global, input: &[u8], pgm: bool) -> Result<Vec<u8
 
 /// The inverse of the pile in the input, as text or as a picture. Fails if that pile is not recurrent (`Unstable`,
 /// `NotRecurrent`).
-pub(crate) fn inverse_input(alloc: Global, input: &[u8], pgm: bool) -> Result<Vec<u8>, DeskFault>
+pub(crate) fn inverse_output(alloc: Global, input: &[u8], pgm: bool) -> Result<Vec<u8>, DeskFault>
     ensures text { IfOk result (λ text. IsInverseText pgm input.now text.items) }
     ensures fault { IfErr result (Finds (IsElementFault input.now)) }
 {
@@ -104,7 +104,7 @@ pub(crate) fn inverse_input(alloc: Global, input: &[u8], pgm: bool) -> Result<Ve
 
 /// The sum of `times` copies of the pile in the input, as text or as a picture. Fails if that pile is not recurrent
 /// (`Unstable`, `NotRecurrent`).
-pub(crate) fn multiple_input(
+pub(crate) fn multiple_output(
     alloc: Global,
     input: &[u8],
     times: u64,
@@ -121,7 +121,7 @@ pub(crate) fn multiple_input(
 
 /// The recurrent pile equivalent to the pile in the input, as text or as a picture. Every pile has one, so only the
 /// input text can be at fault.
-pub(crate) fn recurrent_input(alloc: Global, input: &[u8], pgm: bool) -> Result<Vec<u8>, DeskFault>
+pub(crate) fn recurrent_output(alloc: Global, input: &[u8], pgm: bool) -> Result<Vec<u8>, DeskFault>
     ensures text { IfOk result (λ text. IsRecurrentText pgm input.now text.items) }
     ensures fault { IfErr result (Finds (IsUnreadable (pile_of input.now))) }
 {

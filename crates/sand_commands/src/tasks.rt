@@ -11,8 +11,8 @@ use crate::drawn_drops::drawn_drops;
 use crate::faults::DeskFault;
 use crate::listed_drops::listed_drops;
 use crate::pile_commands::{
-    burn_input, identity_text, inverse_input, multiple_input, recurrent_input, settle_input,
-    sum_input,
+    burn_output, identity_text, inverse_output, multiple_output, recurrent_output, settle_output,
+    sum_output,
 };
 use sand_cli::Task;
 use sand_text::{StreamFault, read_all, write_text};
@@ -50,8 +50,8 @@ fn perform(alloc: Global, task: Task, input: &[u8]) -> Result<Vec<u8>, DeskFault
     ensures fault { IfErr result (Finds (IsFaultWithoutLab task input.now)) }
 {
     match task {
-        Task::Settle { form } => settle_input(alloc, input, form),
-        Task::Burn => burn_input(alloc, input),
+        Task::Settle { form } => settle_output(alloc, input, form),
+        Task::Burn => burn_output(alloc, input),
         Task::Identity {
             width,
             height,
@@ -60,10 +60,10 @@ fn perform(alloc: Global, task: Task, input: &[u8]) -> Result<Vec<u8>, DeskFault
         } => identity_text(alloc, width, height, cylinder, pgm),
         Task::Drops { drawn: None, part } => listed_drops(alloc, input, part),
         Task::Drops { drawn: Some(_), .. } => unreachable!(),
-        Task::Add { pgm } => sum_input(alloc, input, pgm),
-        Task::Inverse { pgm } => inverse_input(alloc, input, pgm),
-        Task::Multiple { times, pgm } => multiple_input(alloc, input, times, pgm),
-        Task::Recurrent { pgm } => recurrent_input(alloc, input, pgm),
+        Task::Add { pgm } => sum_output(alloc, input, pgm),
+        Task::Inverse { pgm } => inverse_output(alloc, input, pgm),
+        Task::Multiple { times, pgm } => multiple_output(alloc, input, times, pgm),
+        Task::Recurrent { pgm } => recurrent_output(alloc, input, pgm),
         Task::Lab { .. } => unreachable!(),
     }
 }

@@ -7,7 +7,7 @@ ghost use Rattle.sand_cli.specs.Asked.{IsWithin};
 ghost use Rattle.sand_commands.specs.Commands.{IsWritten, WorkEnds};
 ghost use Rattle.sand_desk.specs.Commands.{CommandEnds, IsFaultOf, IsTextOf, call_of};
 
-use crate::laboratory::{Output, lab_input};
+use crate::laboratory::{Output, lab_output};
 use sand_cli::{Task, task_of};
 use sand_commands::{DeskFault, take_input};
 use sand_text::write_text;
@@ -38,7 +38,7 @@ fn do_task<T: Threads + Sync, G: Gate, W: Write>(
     else {
         return sand_commands::do_task_without_lab(alloc, gate, task, input, writer);
     };
-    let text = lab_input(rt, alloc, gate, input, wish, Output { journal, form })?;
+    let text = lab_output(rt, alloc, gate, input, wish, Output { journal, form })?;
     write_text(writer, text.as_slice())?;
     Ok(())
 }

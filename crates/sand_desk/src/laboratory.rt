@@ -154,7 +154,7 @@ fn report_text(alloc: Global, report: &Report, output: Output) -> Result<Vec<u8>
 
 /// The output of a run on the pile in the input. Fails if the pile and all drops exceed the grain limit
 /// (`TooManyGrains`).
-pub(crate) fn lab_input<T: Threads + Sync, G: Gate>(
+pub(crate) fn lab_output<T: Threads + Sync, G: Gate>(
     rt: &T,
     alloc: Global,
     gate: &G,

@@ -33,7 +33,7 @@ pub struct DrivenPile {
     // The settled start, for its odometer.
     start: Settled,
     // The heights now, and the topplings since the start was settled.
-    fronts: TiledPile,
+    tiles: TiledPile,
     number: u64,
     topplings: u64,
     lost: u64,
@@ -47,9 +47,9 @@ impl Model for DrivenPile {
 
     ghost Value = { DrivenView };
 
-    ghost view = { λ p. driven_view (driven_record p.start p.fronts p.topplings p.lost) p.number };
+    ghost view = { λ p. driven_view (driven_record p.start p.tiles p.topplings p.lost) p.number };
 
-    ghost invariant = { λ p. IsDriven p.start p.fronts p.number p.topplings p.lost p.grains };
+    ghost invariant = { λ p. IsDriven p.start p.tiles p.number p.topplings p.lost p.grains };
 }
 
 impl DrivenPile {
@@ -72,14 +72,14 @@ impl DrivenPile {
         ensures memory { IsOkUnless result (OneFault.Memory alloc_error) }
     {
         let shape = settled.pile().shape();
-        let Ok(fronts) = TiledPile::new(alloc, shape, settled.pile().heights()) else {
+        let Ok(tiles) = TiledPile::new(alloc, shape, settled.pile().heights()) else {
             return Err(OneFault::Memory(AllocError));
         };
         let (topplings, lost) = (settled.topplings(), settled.lost());
         let grains = settled.pile().grains() + lost;
         Ok(DrivenPile {
             start: settled,
-            fronts,
+            tiles,
             number: 0,
             topplings,
             lost,
@@ -127,7 +127,7 @@ impl DrivenPile {
         if self.grains == self.limit() {
             return Err(OneFault::Full);
         }
-        let (avalanche, waves) = self.fronts.drop_with_waves(site, sizes);
+        let (avalanche, waves) = self.tiles.drop_with_waves(site, sizes);
         let number = self.number;
         self.number = number + 1;
         self.topplings += avalanche.size;
@@ -163,7 +163,7 @@ impl DrivenPile {
         requires { site < sites (grid_of_driven self.now) }
         ensures { result ≡ height_of self.now.settled.pile site }
     {
-        self.fronts.height(site)
+        self.tiles.height(site)
     }
 
     /// The number of topplings since the start, including its settling.
@@ -185,7 +185,7 @@ impl DrivenPile {
         requires { site < sites (grid_of_driven self.now) }
         ensures { result ≡ odometer_of self.now.settled site }
     {
-        self.start.odometer(site) + self.fronts.times(site)
+        self.start.odometer(site) + self.tiles.times(site)
     }
 
     /// Writes the height of each site. It is faster than to read them one by one.
@@ -193,7 +193,7 @@ impl DrivenPile {
         requires { length heights.old ≡ sites (grid_of_driven self.now) }
         ensures { heights.new ≡ self.now.settled.pile.heights }
     {
-        self.fronts.read_heights(heights);
+        self.tiles.read_heights(heights);
     }
 
     /// Writes how often each site has toppled since the start, including its settling. It is faster than to read the
@@ -203,7 +203,7 @@ impl DrivenPile {
         ensures { odometer.new ≡ self.now.settled.odometer }
     {
         odometer.copy_from_slice(self.start.odometers());
-        self.fronts.add_times(odometer);
+        self.tiles.add_times(odometer);
     }
 
     /// Brings a list of the heights up to date that has those of all sites farther from a site than a reach.
@@ -254,7 +254,7 @@ impl DrivenPile {
     {
         let DrivenPile {
             start,
-            fronts,
+            tiles,
             topplings,
             lost,
             grains,
@@ -266,8 +266,8 @@ impl DrivenPile {
             ..
         } = start;
         let (shape, mut heights) = pile.into_parts();
-        fronts.read_heights(&mut heights);
-        fronts.add_times(&mut odometer);
+        tiles.read_heights(&mut heights);
+        tiles.add_times(&mut odometer);
         Settled {
             pile: Pile::from_counted(shape, heights, grains - lost),
             odometer,

@@ -22,7 +22,7 @@ room c =
     )
 
 dropped : (c : After-drop_with_waves-waves)
-    → DropsOn c.self.inside.start c.self.inside.fronts c.drop_with_waves-waves.new.self c.args.site
+    → DropsOn c.self.inside.start c.self.inside.tiles c.drop_with_waves-waves.new.self c.args.site
     c.drop_with_waves-waves.result.0 c.self.inside.number c.self.inside.topplings c.self.inside.lost c.self.inside.grains
 dropped c = drops_on c.self.invariant (inside c) (room c) c.drop_with_waves-waves.ensures.dropped
 

@@ -23,14 +23,14 @@ invariant_of-result c =
     c.start.inside.odometer.len (omega (arith, c.add_times.auto.odometer, c.deref_mut-2.ensures.len)) in
     let counts : c.deref_mut-2.result.now ≡ c.self.inside.start.odometer =
     c.deref_mut-2.ensures.value ∙ ap (λ (r : SettledView). r.odometer) c.start.view_is in
-    let all = same_parts {q = driven_record c.self.inside.start c.self.inside.fronts
+    let all = same_parts {q = driven_record c.self.inside.start c.self.inside.tiles
     c.self.inside.topplings c.self.inside.lost}
     (ap (λ (p : PileView). p.grid) c.from_counted.ensures ∙ c.into_parts-shape.ensures.shape
     ∙ ap (λ (r : SettledView). r.pile.grid) c.start.view_is)
     (ap (λ (p : PileView). p.heights) c.from_counted.ensures ∙ heights ∙ c.read_heights.ensures)
     (odometer ∙ c.add_times.ensures ∙ ap (λ (xs : List ℕ).
-    by_site c.self.inside.fronts.grid (λ j. slice_index xs j + slice_index c.self.inside.fronts.times j)) counts
+    by_site c.self.inside.tiles.grid (λ j. slice_index xs j + slice_index c.self.inside.tiles.times j)) counts
     ∙ ap (λ (g : Grid).
-    by_site g (λ j. slice_index c.self.inside.start.odometer j + slice_index c.self.inside.fronts.times j))
+    by_site g (λ j. slice_index c.self.inside.start.odometer j + slice_index c.self.inside.tiles.times j))
     c.self.invariant.one_grid) refl refl in
     subst IsSomeSettledRecord (sym all) c.self.invariant.settled

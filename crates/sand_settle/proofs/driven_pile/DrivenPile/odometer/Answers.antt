@@ -22,7 +22,7 @@ overflow_add-result c =
 pub returns : goal.returns
 returns c =
     let at = by_site_at c.self.inside.start.pile.grid
-    (λ j. slice_index c.self.inside.start.odometer j + slice_index c.self.inside.fronts.times j)
+    (λ j. slice_index c.self.inside.start.odometer j + slice_index c.self.inside.tiles.times j)
     c.args.site (inside c.self.view_is c.args.site c.requires) in
     subst (λ (v : DrivenView). c.odometer.result + c.times.result ≡ odometer_of v.settled c.args.site)
     c.self.view_is (omega (arith, c.odometer.ensures, c.times.ensures))

@@ -6,7 +6,7 @@ use Rattle.sand_settle.proofs.driven_pile.DrivenPile.of_settled.Goals.{After-gra
 use Rattle.sand_settle.proofs.driven_pile.DrivenPile.of_settled.Goals as goal
 
 at_start : (c : After-grains)
-    → IsAtStart c.args.settled c.in-Ok.fronts c.topplings-topplings.result c.lost-lost.result
+    → IsAtStart c.args.settled c.in-Ok.tiles c.topplings-topplings.result c.lost-lost.result
 at_start c = record {
   paid = c.requires;
   settled = c.pile.ensures.settled;

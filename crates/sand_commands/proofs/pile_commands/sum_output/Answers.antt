@@ -1,7 +1,7 @@
 use Rattle.sand_commands.proofs.Common.{sym, ◌∙◌, ap, inl, inr, err_from_is_err_and, IfOk-weaker, Grid, sites, PileView}
 use Rattle.sand_group.proofs.WhyRefused.{refusal}
 use Rattle.sand_commands.proofs.Unfit.{pair_refused}
-use Rattle.sand_commands.proofs.pile_commands.sum_input.Goals as goal
+use Rattle.sand_commands.proofs.pile_commands.sum_output.Goals as goal
 
 abbrev grid : PileView → Grid
 grid p = p.grid

@@ -1,6 +1,6 @@
 use Rattle.sand_commands.proofs.Common.{IfOk-weaker, height_of}
 use Rattle.sand_group.proofs.WhyRefused.{stable}
-use Rattle.sand_commands.proofs.pile_commands.burn_input.Goals as goal
+use Rattle.sand_commands.proofs.pile_commands.burn_output.Goals as goal
 
 pub returns-clause-text : goal.returns-clause-text
 returns-clause-text c =

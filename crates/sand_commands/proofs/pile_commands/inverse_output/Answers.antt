@@ -1,6 +1,6 @@
 use Rattle.sand_commands.proofs.Common.{err_from_is_err_and}
 use Rattle.sand_commands.proofs.Unfit.{pile_refused}
-use Rattle.sand_commands.proofs.pile_commands.inverse_input.Goals as goal
+use Rattle.sand_commands.proofs.pile_commands.inverse_output.Goals as goal
 
 pub returns-in_err-recurrent-clause-fault : goal.returns-in_err-recurrent-clause-fault
 returns-in_err-recurrent-clause-fault c =
