@@ -53,7 +53,7 @@ def heed_signals():
 
 
 class OfCheck(OfScripts):
-    scripts = ("check", ".gitignore")
+    scripts = ("check", "tools/checkout.py", ".gitignore")
 
     def setUp(self):
         super().setUp()
