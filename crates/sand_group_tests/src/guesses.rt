@@ -3,7 +3,9 @@
 
 use crate::piles::{pile_on, row};
 use sand_group::identity;
-use sand_guess::{Claim, guessed, guessed_identity, is_flat, is_high, swept, toppled};
+use sand_guess::{
+    Claim, claim_by_sweeps, claim_by_tiles, guessed, guessed_identity, is_flat, is_high,
+};
 use sand_model::{Edge, Pile, Shape};
 use sand_settle::settle;
 use std::alloc::{AllocError, Global};
@@ -27,10 +29,13 @@ fn claims_by_hand(rt: HostRuntime) -> Result<(), Fail> {
             "{heights:?}"
         );
         assert!(rt;
-            is_claimed(toppled(rt.alloc(), &pile), counts),
+            is_claimed(claim_by_tiles(rt.alloc(), &pile), counts),
             "{heights:?}"
         );
-        assert!(rt; is_claimed(swept(rt.alloc(), &pile), counts), "{heights:?}");
+        assert!(rt;
+            is_claimed(claim_by_sweeps(rt.alloc(), &pile), counts),
+            "{heights:?}"
+        );
     }
     let most = row(rt.alloc(), &[1_099_511_627_775]).ok_or("no pile")?;
     assert!(rt; is_claimed(guessed(rt.alloc(), &most), &[274_877_906_943]));

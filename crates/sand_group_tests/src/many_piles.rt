@@ -5,7 +5,7 @@ ghost use Rattle.std.specs.Prelude.{◌<◌};
 
 use crate::piles::pile_on;
 use sand_certify::certified;
-use sand_guess::{Claim, guessed, is_flat, is_small, swept, toppled};
+use sand_guess::{Claim, claim_by_sweeps, claim_by_tiles, guessed, is_flat, is_small};
 use sand_model::{Edge, Pile};
 use std::alloc::{AllocError, Global};
 
@@ -107,11 +107,11 @@ fn claims_for_many_piles_are_accepted(rt: HostRuntime) {
             assert!(rt; is_accepted(rt.alloc(), &pile, guessed(rt.alloc(), &pile)));
             piles = piles.saturating_add(1);
             // A large pile with many grains may need more visits than are tried.
-            if is_flat(&pile) && is_accepted(rt.alloc(), &pile, toppled(rt.alloc(), &pile)) {
+            if is_flat(&pile) && is_accepted(rt.alloc(), &pile, claim_by_tiles(rt.alloc(), &pile)) {
                 flat = flat.saturating_add(1);
             }
             if is_small(pile.shape(), pile.grains()) {
-                assert!(rt; is_accepted(rt.alloc(), &pile, swept(rt.alloc(), &pile)));
+                assert!(rt; is_accepted(rt.alloc(), &pile, claim_by_sweeps(rt.alloc(), &pile)));
                 small = small.saturating_add(1);
             }
         }

@@ -39,6 +39,6 @@ mod tile;
 mod tiles;
 mod waiting;
 
-pub use claim::{Claim, guessed, guessed_identity, toppled};
+pub use claim::{Claim, claim_by_tiles, guessed, guessed_identity};
 pub use forecast::{is_flat, is_high};
-pub use sweeps::{is_small, swept};
+pub use sweeps::{claim_by_sweeps, is_small};

@@ -155,7 +155,7 @@ pub fn is_small(shape: Shape, grains: u64) -> bool {
 
 /// How often each site of a small pile topples, found by sweeps, with turns at which sites burn, or None. It is not
 /// proved right: `sand_certify::certified` decides. Fails only if an allocation fails.
-pub fn swept(alloc: Global, pile: &Pile) -> Result<Option<Claim>, AllocError> {
+pub fn claim_by_sweeps(alloc: Global, pile: &Pile) -> Result<Option<Claim>, AllocError> {
     let mut columns = columns_of(alloc, pile)?;
     for n in 0..MOST_SWEEPS {
         let turn = n.wrapping_mul(2 * SIDE as u16);

@@ -2,12 +2,13 @@
 //!
 //! The queue is the plain way, always right, and fast if little topples. A light pile, of which a bound shows that not
 //! much topples (`is_light`), goes to the queue at once, and stays there. The odometer of a small and dense pile is
-//! claimed by sweeps (`sand_guess::swept`). On other piles the queue comes first, for a few turns per site, unless the
-//! pile is found to be high (`sand_guess::is_high`), or is flat and flooded and no dam is near (`is_flooded`). If the
-//! queue has not settled the pile, its odometer is claimed: by toppling on tiles if the pile is low and flat
-//! (`sand_guess::toppled`), and then by a guess (`sand_guess::guessed`). A claim is certified (`sand_certify`), which
-//! is a proof. If every claim is rejected, the queue settles the pile from the start, however long that takes. Nothing
-//! is proved of what `sand_guess` returns: a wrong claim costs time, and the result is the same.
+//! claimed by sweeps (`sand_guess::claim_by_sweeps`). On other piles the queue comes first, for a few turns per site,
+//! unless the pile is found to be high (`sand_guess::is_high`), or is flat and flooded and no dam is near
+//! (`is_flooded`). If the queue has not settled the pile, its odometer is claimed: by toppling on tiles if the pile is
+//! low and flat (`sand_guess::claim_by_tiles`), and then by a guess (`sand_guess::guessed`). A claim is certified
+//! (`sand_certify`), which is a proof. If every claim is rejected, the queue settles the pile from the start, however
+//! long that takes. Nothing is proved of what `sand_guess` returns: a wrong claim costs time, and the result is the
+//! same.
 
 ghost use Rattle.std.specs.Prelude.{◌≤◌, ◌^◌, IfOk, IfSome, IsSome};
 ghost use Rattle.sand_model.specs.Grid.{IsGrid};
@@ -15,7 +16,7 @@ ghost use Rattle.sand_settle.specs.Rests.{ComesToRest};
 
 use crate::queue::topple_to_rest;
 use sand_certify::certified;
-use sand_guess::{Claim, guessed, is_flat, is_high, is_small, swept, toppled};
+use sand_guess::{Claim, claim_by_sweeps, claim_by_tiles, guessed, is_flat, is_high, is_small};
 use sand_model::{Edge, Pile, PileFault, Shape, TOPPLING_HEIGHT};
 use std::alloc::{AllocError, Global};
 
@@ -175,7 +176,7 @@ fn settle_if_low(alloc: Global, pile: &Pile) -> Result<Option<Rest>, AllocError>
     ensures { IfOk result (λ o. IfSome o (ComesToRest pile.now)) }
 {
     if is_small(pile.shape(), pile.grains()) {
-        return settle_by_claim(alloc, pile, swept(alloc, pile)?);
+        return settle_by_claim(alloc, pile, claim_by_sweeps(alloc, pile)?);
     }
     let sites = pile.shape().sites() as u64;
     let is_flat = is_flat(pile);
@@ -192,7 +193,7 @@ fn settle_if_low(alloc: Global, pile: &Pile) -> Result<Option<Rest>, AllocError>
             return Ok(rest);
         }
     }
-    settle_by_claim(alloc, pile, toppled(alloc, pile)?)
+    settle_by_claim(alloc, pile, claim_by_tiles(alloc, pile)?)
 }
 
 // Settles a pile of which more may topple: by sweeps, the queue or tiles unless it is high, otherwise by a guess.
