@@ -15,16 +15,14 @@ const BITS: usize = 64;
 // How often a pass comes by a tile.
 const VISITS: usize = 4;
 
-// More words than a pass comes by without any tile that waits.
-const MOST_WORDS: usize = 1 << 20;
-
 /// The tiles that wait, each of them once.
 #[derive(Drop)]
 pub(crate) struct Waiting {
     words: Vec<u64>,
-    number: usize,
     /// The words from a tile to the one in the next row, or one more.
     row: usize,
+    /// The steps of a pass.
+    steps: usize,
     /// Where the pass is: its step, how many rows before that, the word there, and the tiles that wait in it.
     step: usize,
     rows_before: usize,
@@ -35,10 +33,12 @@ pub(crate) struct Waiting {
 impl Waiting {
     /// None of so many tiles, with `pitch` in a row.
     pub(crate) fn new(alloc: Global, tiles: usize, pitch: usize) -> Result<Waiting, AllocError> {
+        let words = vec![in alloc; 0u64; tiles.div_ceil(BITS)]?;
+        let row = pitch / BITS + 1;
         Ok(Waiting {
-            words: vec![in alloc; 0u64; tiles.div_ceil(BITS)]?,
-            number: 0,
-            row: pitch / BITS + 1,
+            steps: words.len().wrapping_add(row.wrapping_mul(VISITS - 1)),
+            words,
+            row,
             step: 0,
             rows_before: 0,
             word: 0,
@@ -47,13 +47,13 @@ impl Waiting {
     }
 
     pub(crate) fn is_empty(&self) -> bool {
-        self.number == 0
+        self.left == 0 && self.words.iter().all(|word| *word == 0)
     }
 
     /// Has no tile wait any more.
     pub(crate) fn clear(&mut self) {
         self.words.fill(0);
-        (self.number, self.left) = (0, 0);
+        self.left = 0;
     }
 
     /// Has a tile wait, if a test is true.
@@ -61,23 +61,18 @@ impl Waiting {
     pub(crate) fn add_if(&mut self, k: usize, test: bool) {
         if let Some(word) = self.words.get_mut(k / BITS) {
             *word |= u64::from(test) << (k % BITS);
-            self.number = self.number.wrapping_add(usize::from(test));
         }
     }
 
     // Goes to the next word.
     fn go_on(&mut self) {
         let before = self.rows_before.wrapping_add(1);
-        let last = self
-            .words
-            .len()
-            .wrapping_add(self.row.wrapping_mul(VISITS - 1));
         if before < VISITS && before.wrapping_mul(self.row) <= self.step {
             self.rows_before = before;
         } else {
             self.rows_before = 0;
             self.step = self.step.wrapping_add(1);
-            self.step = if self.step < last { self.step } else { 0 };
+            self.step = if self.step < self.steps { self.step } else { 0 };
         }
         self.word = self
             .step
@@ -88,24 +83,28 @@ impl Waiting {
         }
     }
 
+    // Goes to the next word in which a tile waits, and returns whether there is one.
+    fn find(&mut self) -> bool {
+        for _ in 0..self.steps.wrapping_mul(VISITS) {
+            self.go_on();
+            if self.left != 0 {
+                return true;
+            }
+        }
+        false
+    }
+
     /// Takes the next tile that is to be visited.
     #[inline(always)]
     pub(crate) fn next(&mut self) -> Option<usize> {
-        if self.number == 0 {
+        if self.left == 0 && !self.find() {
             return None;
-        }
-        for _ in 0..MOST_WORDS {
-            if self.left != 0 {
-                break;
-            }
-            self.go_on();
         }
         let k = self
             .word
             .wrapping_mul(BITS)
             .wrapping_add(self.left.trailing_zeros() as usize);
         self.left &= self.left.wrapping_sub(1);
-        self.number = self.number.wrapping_sub(1);
         Some(k)
     }
 }
