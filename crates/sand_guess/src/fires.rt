@@ -180,11 +180,11 @@ impl Tiles {
             let Some(place) = self.places.get_mut(k) else {
                 break;
             };
-            let (unburnt, is_used_up) = place.end_fire();
+            let (unburnt, mut is_used_up) = place.end_fire();
             if is_any(unburnt) {
                 is_any_left = true;
                 if k < self.counts.len() {
-                    count_up(&mut self.counts[k], unburnt);
+                    is_used_up |= count_up(&mut self.counts[k], unburnt);
                 }
                 self.hand_back(k, unburnt);
             }
@@ -205,7 +205,7 @@ impl Tiles {
         }
         self.is_burning = true;
         self.kindle();
-        self.topple_waiting(ROUNDS);
+        self.topple_waiting(&mut [], ROUNDS);
         self.is_burning = false;
     }
 

@@ -17,7 +17,7 @@ use std::simd::prelude::*;
 // The greatest number on the tiles when toppling begins: later it may have four more.
 const MOST: u64 = 11;
 
-// A site topples less than 2 ^ 16 times before its count is read.
+// Counts are read when one reaches 2 ^ 15, at the latest.
 pub(crate) const PLANES: usize = 16;
 
 // The planes that a count is added to without a test.
@@ -53,18 +53,19 @@ pub(crate) struct Tiles {
     turn: i64,
 }
 
-// Counts a toppling of each place of a set.
+/// Counts a toppling of each place of a set, and returns whether the planes have to be read before they are full.
 #[inline(always)]
-pub(crate) fn count_up(counts: &mut [u16x8; PLANES], set: u16x8) {
+pub(crate) fn count_up(counts: &mut [u16x8; PLANES], set: u16x8) -> bool {
     let mut carry = set;
     for plane in 0..PLANES {
         if plane == FEW_PLANES && !is_any(carry) {
-            break;
+            return false;
         }
         let before = counts[plane];
         counts[plane] = before ^ carry;
         carry &= before;
     }
+    is_any(counts[PLANES - 1])
 }
 
 // Adds counts, a plane for each bit, to numbers by site, or subtracts them if `number` is not 1 but -1.
@@ -155,9 +156,17 @@ impl Tiles {
         self.gain(east.0, east.1);
     }
 
+    // Adds to the counts how often each place of a tile has toppled since they were last read.
+    fn read_counts(&mut self, k: usize, counts: &mut [i64]) {
+        if k < self.places.len() && k < self.counts.len() {
+            add_planes(&self.places[k], counts, self.counts[k], 1);
+            self.counts[k] = [u16x8::splat(0); PLANES];
+        }
+    }
+
     // Topples the sites of a tile that may topple, and counts them.
     #[inline(always)]
-    fn visit(&mut self, k: usize) {
+    fn visit(&mut self, k: usize, counts: &mut [i64]) {
         let Some(place) = self.places.get_mut(k) else {
             return;
         };
@@ -170,29 +179,28 @@ impl Tiles {
         self.waiting.add_if(k, is_due);
         if self.is_burning {
             self.note_burnt(k, toppled);
-        } else if k < self.counts.len() {
-            count_up(&mut self.counts[k], toppled);
+        } else if k < self.counts.len() && count_up(&mut self.counts[k], toppled) {
+            self.read_counts(k, counts);
         }
         self.hand_over(k, toppled);
     }
 
     // Topples until no tile waits, and returns whether this number of visits for each tile was enough.
-    pub(crate) fn topple_waiting(&mut self, visits: usize) -> bool {
+    pub(crate) fn topple_waiting(&mut self, counts: &mut [i64], visits: usize) -> bool {
         for _ in 0..visits.wrapping_mul(self.places.len()) {
             let Some(k) = self.waiting.next() else {
                 return true;
             };
-            self.visit(k);
+            self.visit(k, counts);
         }
         self.waiting.is_empty()
     }
 
     /// Topples until no site may topple, and returns whether this number of visits for each tile was enough.
     pub(crate) fn topple(&mut self, counts: &mut [i64], visits: usize) -> bool {
-        let is_stable = self.topple_waiting(visits);
-        for k in 0..self.places.len().min(self.counts.len()) {
-            add_planes(&self.places[k], counts, self.counts[k], 1);
-            self.counts[k] = [u16x8::splat(0); PLANES];
+        let is_stable = self.topple_waiting(counts, visits);
+        for k in 0..self.places.len() {
+            self.read_counts(k, counts);
         }
         is_stable
     }
