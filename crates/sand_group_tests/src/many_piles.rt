@@ -6,7 +6,7 @@ ghost use Rattle.std.specs.Prelude.{◌<◌};
 use crate::piles::pile_on;
 use sand_certify::certified;
 use sand_guess::{Claim, claim_by_sweeps, claim_by_tiles, guessed, is_flat, is_small};
-use sand_model::{Edge, Pile};
+use sand_model::{Edge, Pile, Shape};
 use std::alloc::{AllocError, Global};
 
 const PILES: u64 = 400;
@@ -120,4 +120,24 @@ fn claims_for_many_piles_are_accepted(rt: HostRuntime) {
         piles >= 300 && flat >= 100 && small >= 20,
         "{piles}, {flat} of them flat, {small} small"
     );
+}
+
+// Many grains in a corner of a long cylinder.
+fn heap_in_a_corner(alloc: Global) -> Option<Pile> {
+    let shape = Shape::large(128, 4096, Edge::Cylinder).ok()?;
+    let mut heights = vec![in alloc; 0u64; shape.sites()].ok()?;
+    *heights.first_mut()? = 1 << 26;
+    Pile::new(alloc, shape, &heights).ok()
+}
+
+// After the solve some sites topple more than 65,536 times. A guess that loses count is refused.
+#[test]
+fn a_claim_for_many_topplings_of_a_site_is_accepted(rt: HostRuntime) {
+    let pile = heap_in_a_corner(rt.alloc());
+    let is_accepted = pile.is_some_and(|pile| is_accepted(
+        rt.alloc(),
+        &pile,
+        guessed(rt.alloc(), &pile),
+    ));
+    assert!(rt; is_accepted);
 }
