@@ -90,17 +90,19 @@ fn is_high_with(alloc: Global, side: usize, each: u64, site: usize, heap: u64) -
     Some(is_high(&pile))
 }
 
-// On a small grid the queue takes few turns, however high the pile. A plain queue was counted to take 400 turns per site
-// for a heap in the middle, 7 for one at the middle of the west edge, and less than 1 for one in a corner.
+// On a small grid the queue takes few turns, however high the pile. A plain queue was counted to take 47 turns per site
+// for a heap in the middle, 1.5 for one at the middle of the west edge, and 0.2 for one in a corner. In a corner of the
+// large grid it takes 3.5, and a guess looks only there.
 #[test]
 fn sees_what_is_high(rt: HostRuntime) {
     for (side, each, site, heap, expected) in [
         (64, 6, 0, 6, true),
         (64, 3, 0, 3, false),
         (16, 1_000_000, 0, 1_000_000, false),
-        (64, 0, 32 * 64 + 32, 13_000, true),
-        (64, 0, 32 * 64, 13_000, false),
-        (64, 0, 0, 13_000, false),
+        (64, 0, 32 * 64 + 32, 4_000, true),
+        (64, 0, 32 * 64, 4_000, false),
+        (64, 0, 0, 4_000, false),
+        (256, 0, 0, 1 << 20, true),
     ] {
         let seen = is_high_with(rt.alloc(), side, each, site, heap);
         assert!(rt;

@@ -122,22 +122,49 @@ fn claims_for_many_piles_are_accepted(rt: HostRuntime) {
     );
 }
 
-// Many grains in a corner of a long cylinder.
-fn heap_in_a_corner(alloc: Global) -> Option<Pile> {
-    let shape = Shape::large(128, 4096, Edge::Cylinder).ok()?;
+// Heaps, and `west` grains on each other site of the west half.
+fn heaps_on(alloc: Global, shape: Shape, west: u64, heaps: &[(usize, u64)]) -> Option<Pile> {
     let mut heights = vec![in alloc; 0u64; shape.sites()].ok()?;
-    *heights.first_mut()? = 1 << 26;
+    for site in 0..heights.len() {
+        if site % shape.width() < shape.width() / 2 {
+            heights[site] = west;
+        }
+    }
+    for (site, grains) in heaps {
+        *heights.get_mut(*site)? = *grains;
+    }
     Pile::new(alloc, shape, &heights).ok()
 }
 
-// After the solve some sites topple more than 65,536 times. A guess that loses count is refused.
+// Whether the claim of a guess is accepted for such a pile.
+fn is_guessed(alloc: Global, shape: Option<Shape>, west: u64, heaps: &[(usize, u64)]) -> bool {
+    let pile = shape.and_then(|shape| heaps_on(alloc, shape, west, heaps));
+    pile.is_some_and(|pile| is_accepted(alloc, &pile, guessed(alloc, &pile)))
+}
+
+// A heap in a corner, at an edge, in the middle, at the seam of a cylinder, and in sand so full that it comes farther than
+// expected.
+#[test]
+fn claims_for_heaps_are_accepted(rt: HostRuntime) {
+    for (edge, west, site, grains) in [
+        (Edge::Open, 0, 0, 1 << 20),
+        (Edge::Open, 0, 64, 1 << 14),
+        (Edge::Open, 0, 6208, 5000),
+        (Edge::Cylinder, 0, 6144, 5000),
+        (Edge::Open, 3, 6176, 1000),
+    ] {
+        let shape = Shape::with_edge(128, 96, edge).ok();
+        let heaps = [(site, grains)];
+        let is_accepted = is_guessed(rt.alloc(), shape, west, &heaps);
+        assert!(rt; is_accepted, "{grains} at {site}");
+    }
+}
+
+// After the solve some sites topple more than 65,536 times. A guess that loses count is refused. The grains at the other end
+// of the long cylinder keep the guess from looking at a part of it.
 #[test]
 fn a_claim_for_many_topplings_of_a_site_is_accepted(rt: HostRuntime) {
-    let pile = heap_in_a_corner(rt.alloc());
-    let is_accepted = pile.is_some_and(|pile| is_accepted(
-        rt.alloc(),
-        &pile,
-        guessed(rt.alloc(), &pile),
-    ));
-    assert!(rt; is_accepted);
+    let shape = Shape::large(64, 4096, Edge::Cylinder).ok();
+    let heaps = [(0, 1 << 25), (262_143, 4)];
+    assert!(rt; is_guessed(rt.alloc(), shape, 0, &heaps));
 }

@@ -15,8 +15,10 @@
 //! 4. `density`: local means of the resulting heights predict the density for the pile of twice the size, as far as such
 //!    predictions came true at this one.
 //!
-//! The identity of the group of recurrent piles is guessed in the same way, from the empty pile (`claim`). `forecast`
-//! finds, without a solve, whether a pile is so high that a guess is faster than toppling. `sweeps` topples small piles.
+//! Of a pile where only few sites are unstable the part of the grid that their sand is expected to reach is guessed alone
+//! (`window`). The identity of the group of recurrent piles is guessed in the same way, from the empty pile (`claim`).
+//! `forecast` finds, without a solve, whether a pile is so high that a guess is faster than toppling. `sweeps` topples
+//! small piles.
 //!
 //! A loop over several lists runs over indices: the prover takes three to six times as long for zipped iterators.
 #![tactic(auto)]
@@ -38,6 +40,7 @@ mod sweeps;
 mod tile;
 mod tiles;
 mod waiting;
+mod window;
 
 pub use claim::{Claim, claim_by_tiles, guessed, guessed_identity};
 pub use forecast::{is_flat, is_high};
